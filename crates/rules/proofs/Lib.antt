@@ -1,0 +1,5 @@
+pub mod LimitLaws
+pub mod PriceLaws
+pub mod MarginLaws
+pub mod MarkLaws
+pub mod AllLaws
