@@ -2,6 +2,9 @@
 ghost use mathlib.Core.Path.{_≡_};
 ghost use Rattle.archive.specs.Kinds.{kind-byte, kind-of, kind-name};
 
+// Every book has the accounts 1 to 32.
+pub const ACCOUNTS: u64 = 32;
+
 // Why an account's equity changed.
 #[derive(Clone, Copy)]
 pub enum Kind {

@@ -5,6 +5,7 @@ ghost use lib.ListN.{length};
 ghost use Rattle.archive.specs.Layout.{encoded, header, slot-at, slot-of, entry-of, num2, num4, num8};
 use crate::entry::Entry;
 use crate::entry::Kind;
+use crate::write::SLOT_BYTES;
 
 // The numbers of a slot as they stand there; the kind may be any byte.
 #[derive(Clone, Copy)]
@@ -140,7 +141,7 @@ pub(crate) fn read_slot(archive: &[u8], slot: usize) -> Slot
     requires { ⌜ 32 * slot + 32 ≤ length (now archive) ⌝ }
     ensures { λ r. ⌜ r ≡ slot-at (now (archive .entry)) slot ⌝ }
 {
-    let at = 32 * slot;
+    let at = SLOT_BYTES * slot;
     Slot {
         next: four(archive, at),
         day: two(archive, at + 4),

@@ -6,10 +6,12 @@ ghost use lib.ListN.{length};
 ghost use Rattle.archive.specs.Layout.{slot-at};
 ghost use Rattle.archive.specs.Chain.{last, entry-on, chain-from, zeros, headed, reader-refusal, picked, reading};
 ghost use Rattle.archive.specs.Walks.{walk-from, walked};
+use crate::entry::ACCOUNTS;
 use crate::entry::Entry;
 use crate::layout::four;
 use crate::layout::read_slot;
 use crate::layout::two;
+use crate::write::SLOT_BYTES;
 use crate::write::is_allowed;
 use refusal::Refusal;
 
@@ -29,14 +31,14 @@ fn is_headed(archive: &[u8]) -> bool
     is_allowed(archive.len())
         && two(archive, 4) > 0
         && all_zero(&archive[6..32])
-        && (four(archive, 0) as usize) < archive.len() / 32
+        && (four(archive, 0) as usize) < archive.len() / SLOT_BYTES
 }
 
 // Why nothing can be read for this account, before its chain is looked at.
 pub(crate) fn refusal_of(archive: &[u8], account: u64) -> Option<Refusal>
     ensures { λ r. ⌜ r ≡ reader-refusal (now (archive .entry)) account ⌝ }
 {
-    if account < 1 || account > 32 {
+    if account < 1 || account > ACCOUNTS {
         return Some(Refusal::OutOfRange);
     }
     if !is_headed(archive) {

@@ -12,11 +12,17 @@ use crate::layout::Slot;
 use crate::layout::header_bytes;
 use refusal::Refusal;
 
-// Whether an archive may have so many bytes: 64 to 262,144 slots of 32.
+pub const SLOT_BYTES: usize = 32;
+
+pub const MIN_SLOTS: usize = 64;
+
+pub const MAX_SLOTS: usize = 262_144;
+
+// Whether an archive may have so many bytes.
 pub fn is_allowed(bytes: usize) -> bool
     ensures { λ r. ⌜ r ≡ allowed bytes ⌝ }
 {
-    bytes % 32 == 0 && bytes / 32 >= 64 && bytes / 32 <= 262_144
+    bytes % SLOT_BYTES == 0 && bytes / SLOT_BYTES >= MIN_SLOTS && bytes / SLOT_BYTES <= MAX_SLOTS
 }
 
 fn put(archive: &mut [u8], at: usize, bytes: &[u8])
@@ -48,10 +54,10 @@ fn put_entry(archive: &mut [u8], used: u32, entry: Entry) -> Result<(), Refusal>
         return Err(Refusal::ArchiveLength);
     }
     let slot = used as usize + 1;
-    if archive.len() / 32 <= slot {
+    if archive.len() / SLOT_BYTES <= slot {
         return Err(Refusal::NoRoom);
     }
-    put(archive, 32 * slot, &Slot::of(entry).bytes());
+    put(archive, SLOT_BYTES * slot, &Slot::of(entry).bytes());
     put(archive, 0, &(used + 1).to_be_bytes());
     Ok(())
 }
