@@ -1,0 +1,15 @@
+pub mod Products
+pub mod Tabulated
+pub mod Types
+pub mod Accounts
+pub mod Banking
+pub mod Contracts
+pub mod Listings
+pub mod Opening
+pub mod Trading
+pub mod Sides
+pub mod Exchanging
+pub mod Outcomes
+pub mod Pricing
+pub mod Revaluing
+pub mod WorkedDays

@@ -1,0 +1,8 @@
+use Prim.Native.Nat.{_*_, _≤_}
+use mathlib.Core.Path.{refl}
+use native.Mathlib.Omega.{arith}
+use Rattle.std.proofs.shelf.Bits.{mul-le}
+use Rattle.ledger.proofs.table.worth.Needs as need
+
+pub returns : need.returns
+returns c = let m = mul-le (c .args .sum) (c .args .rate) (9999 * c .args .teu) 99999 (omega arith) (omega arith) in record { value = refl; most = omega arith }

@@ -1,0 +1,13 @@
+pub mod Sums
+pub mod Rows
+pub mod Places
+pub mod Sound
+pub mod Cash
+pub mod Listing
+pub mod Quotes
+pub mod Days
+pub mod Started
+pub mod Trade
+pub mod Settle
+pub mod Questions
+pub mod Worked
