@@ -1,0 +1,14 @@
+pub mod Example
+pub mod Algebra
+pub mod Lists
+pub mod Sums
+pub mod Matches
+pub mod Cash
+pub mod Nets
+pub mod Days
+pub mod Listings
+pub mod Trading
+pub mod Marks
+pub mod Settling
+pub mod Adds
+pub mod Run
