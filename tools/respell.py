@@ -95,7 +95,7 @@ def main():
             print("fall together: " + " ".join(olds))
     for path in list(files(".antt")) + list(files(".rt")):
         text = open(path, encoding="utf-8").read()
-        skip = r"--[^\n]*" if path.endswith(".antt") else r"//[^\n]*|b?\"(?:[^\"\\]|\\.)*\""
+        skip = r"--[^\n]*|\"[^\"]*\"" if path.endswith(".antt") else r"//[^\n]*|b?\"(?:[^\"\\]|\\.)*\""
         new = outside(text, skip, lambda t: turned(t, names, fields))
         if look and new != text:
             bare = outside(text, skip, lambda t: t)

@@ -18,7 +18,7 @@ kind_of b =
     (cond (b == 4) (Some Settlement) None)))
 
 abbrev pub kind_name : Kind → List ℕ
-kind_name PayIn = codes "pay_in"
-kind_name PayOut = codes "pay_out"
-kind_name TradeFee = codes "trade_fee"
+kind_name PayIn = codes "pay-in"
+kind_name PayOut = codes "pay-out"
+kind_name TradeFee = codes "trade-fee"
 kind_name Settlement = codes "settlement"

@@ -2,5 +2,18 @@
 use Rattle.ledger.specs.declared.state.State.{State}
 use Rattle.ledger.specs.Sound.{Sound, RangesIn, FeesIn, RowsIn, PathsIn, TermsIn, DaysIn, DeliveriesIn, BalanceIn, TradedIn, VacantIn, AccountsIn, CountsIn}
 
-pub invariant : (s : State) → Sound s → RangesIn s × (FeesIn s × (RowsIn s × (PathsIn s × (TermsIn s × (DaysIn s × (DeliveriesIn s × (BalanceIn s × (TradedIn s × (VacantIn s × (AccountsIn s × (CountsIn s × Unit {0})))))))))))
-invariant s k = (k.ranges, (k.fees, (k.rows, (k.paths, (k.terms, (k.days, (k.deliveries, (k.balance, (k.traded, (k.vacant, (k.accounts, (k.counts, tt))))))))))))
+pub invariant : (s : State) → Sound s → record { ranges : RangesIn s; fees : FeesIn s; rows : RowsIn s; paths : PathsIn s; terms : TermsIn s; days : DaysIn s; deliveries : DeliveriesIn s; balance : BalanceIn s; traded : TradedIn s; vacant : VacantIn s; accounts : AccountsIn s; counts : CountsIn s }
+invariant s k = record {
+  ranges = k.ranges;
+  fees = k.fees;
+  rows = k.rows;
+  paths = k.paths;
+  terms = k.terms;
+  days = k.days;
+  deliveries = k.deliveries;
+  balance = k.balance;
+  traded = k.traded;
+  vacant = k.vacant;
+  accounts = k.accounts;
+  counts = k.counts;
+}

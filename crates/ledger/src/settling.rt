@@ -46,7 +46,7 @@ pub(crate) fn figures(day: u64, contract: &Contract) -> Figures
 
 // The delivery price on the last day, else the rule's answer.
 fn price_of<P: PriceRule>(day: u64, rule: &P, contract: &Contract) -> u64
-    ensures { result ≡ price_of (meaning rule.now) day contract.now }
+    ensures { result ≡ price_of (P.meaning rule.now) day contract.now }
 {
     if is_delivered(day, contract) {
         contract.price.unwrap_or(0)
@@ -56,7 +56,7 @@ fn price_of<P: PriceRule>(day: u64, rule: &P, contract: &Contract) -> u64
 }
 
 fn price_at<P: PriceRule>(day: u64, rule: &P, held: &Option<Contract>) -> u64
-    ensures { result ≡ price_at (meaning rule.now) day held.now }
+    ensures { result ≡ price_at (P.meaning rule.now) day held.now }
 {
     match held {
         Some(contract) => price_of(day, rule, contract),
@@ -65,7 +65,7 @@ fn price_at<P: PriceRule>(day: u64, rule: &P, held: &Option<Contract>) -> u64
 }
 
 pub(crate) fn prices<P: PriceRule>(state: &State, rule: &P) -> [u64; 12]
-    ensures { result ≡ prices_of (meaning rule.now) state.now }
+    ensures { result ≡ prices_of (P.meaning rule.now) state.now }
 {
     let mut all = [0; 12];
     for p in 0..12 {
@@ -102,7 +102,7 @@ fn delivery_fee(contract: &Contract, row: &Row) -> u64
 }
 
 fn held_margin<M: MarginRule>(rule: &M, mark: u64, row: &Row, ratio: u64) -> u64
-    ensures value { result ≡ holding rule.now mark row.now.long row.now.short ratio }
+    ensures value { result ≡ M.holding rule.now mark row.now.long row.now.short ratio }
     ensures most { result ≤ 100000000000099 }
 {
     rule.holding_margin(mark, row.long as u64, row.short as u64, ratio)
@@ -117,7 +117,7 @@ fn contract_outcome<M: MarginRule>(
 ) -> Outcome
     requires price_bound { (price ≤ 9999) × ((state.now.closing ≤ 99999) × ((state.now.rate ≤ 99999) × (Small row.now))) }
     requires previous_bound { (contract.now.previous ≤ 9999) × (contract.now.delivery ≤ 10000) }
-    ensures value { result ≡ row_outcome (holding rule.now) state.now price (Some contract.now) row.now }
+    ensures value { result ≡ row_outcome (M.holding rule.now) state.now price (Some contract.now) row.now }
     ensures near { Near 1 result }
 {
     let mark = value(price, state.closing);
@@ -148,7 +148,7 @@ fn row_outcome<M: MarginRule>(
 ) -> Outcome
     requires price_bound { (price ≤ 9999) × ((state.now.closing ≤ 99999) × ((state.now.rate ≤ 99999) × (Small row.now))) }
     requires settleable { Settleable held.now }
-    ensures value { result ≡ row_outcome (holding rule.now) state.now price held.now row.now }
+    ensures value { result ≡ row_outcome (M.holding rule.now) state.now price held.now row.now }
     ensures near { Near 1 result }
 {
     match held {
@@ -186,7 +186,7 @@ fn with_row<M: MarginRule>(
     requires sound { Sound state.now }
     requires priced { Priced prices.now }
     requires near { Near place sums }
-    ensures value { result ≡ added sums (outcome_at (holding rule.now) state.now prices.now account place) }
+    ensures value { result ≡ added sums (outcome_at (M.holding rule.now) state.now prices.now account place) }
     ensures near { Near (place + 1) result }
 {
     let row = state.table.at(account, place);
@@ -198,7 +198,7 @@ fn outcome<M: MarginRule>(state: &State, rule: &M, prices: &[u64; 12], account: 
     requires account { account < 32 }
     requires sound { Sound state.now }
     requires priced { Priced prices.now }
-    ensures value { result ≡ outcome_to (holding rule.now) state.now prices.now account 12 }
+    ensures value { result ≡ outcome_to (M.holding rule.now) state.now prices.now account 12 }
     ensures near { Near 12 result }
 {
     let mut sums = Outcome {
@@ -293,7 +293,7 @@ fn settle_contract(price: u64, held: &Option<Contract>) -> Option<Settled>
 fn outcomes<M: MarginRule>(state: &State, rule: &M, prices: &[u64; 12]) -> [Outcome; 32]
     requires sound { Sound state.now }
     requires priced { Priced prices.now }
-    ensures value { result ≡ tabulated (λ a. outcome_to (holding rule.now) state.now prices.now a 12) 32 }
+    ensures value { result ≡ tabulated (λ a. outcome_to (M.holding rule.now) state.now prices.now a 12) 32 }
     ensures near { NearAll result }
 {
     let mut all = [Outcome {
@@ -387,9 +387,9 @@ pub(crate) fn settled<P: PriceRule, M: MarginRule>(
 ) -> (State, Settlement)
     requires sound { Sound state.now }
     requires closed { is_closed state.now.stage ≡ true }
-    ensures state { result.0 ≡ settled_by (holding margin.now) state.now (prices_of (meaning price.now) state.now) }
-    ensures near { (a : ℕ) → a < 32 → Near 12 (outcome_to (holding margin.now) state.now (prices_of (meaning price.now) state.now) a 12) }
-    ensures said { result.1 ≡ settlement (holding margin.now) state.now (prices_of (meaning price.now) state.now) }
+    ensures state { result.0 ≡ settled_by (M.holding margin.now) state.now (prices_of (P.meaning price.now) state.now) }
+    ensures near { (a : ℕ) → a < 32 → Near 12 (outcome_to (M.holding margin.now) state.now (prices_of (P.meaning price.now) state.now) a 12) }
+    ensures said { result.1 ≡ settlement (M.holding margin.now) state.now (prices_of (P.meaning price.now) state.now) }
 {
     let prices = prices(state, price);
     let outcomes = outcomes(state, margin, &prices);

@@ -169,7 +169,7 @@ pub(crate) fn weigh<M: MarginRule>(
     room: bool,
 ) -> Result<Bargain, Refusal>
     requires { Sound state.now }
-    ensures { result ≡ bargain (opening rule.now) state.now deal.now room }
+    ensures { result ≡ bargain (M.opening rule.now) state.now deal.now room }
 {
     if let Some(refusal) = check_frame(state, deal) {
         return Err(refusal);

@@ -52,9 +52,9 @@ impl Book {
         margin: &M,
     ) -> Result<(), (ClosingPermit, Refusal)>
         ensures answer { result ≡ spent_for permit tt (settle_refusal self.old.desk self.old.ledger.state (length archive.old) permit) }
-        ensures desk { self.new.desk ≡ desk_with (settle_desk (settle_refusal self.old.desk self.old.ledger.state (length archive.old) permit) (meaning price.now) (holding margin.now) self.old.desk self.old.ledger.state) (settle_moves (settle_refusal self.old.desk self.old.ledger.state (length archive.old) permit) (meaning price.now) (holding margin.now) self.old.ledger.state) }
-        ensures ledger { self.new.ledger.state ≡ settle_state (settle_refusal self.old.desk self.old.ledger.state (length archive.old) permit) (meaning price.now) (holding margin.now) self.old.ledger.state }
-        ensures bytes { archive.new ≡ bytes_with (settle_desk (settle_refusal self.old.desk self.old.ledger.state (length archive.old) permit) (meaning price.now) (holding margin.now) self.old.desk self.old.ledger.state) archive.old (settle_moves (settle_refusal self.old.desk self.old.ledger.state (length archive.old) permit) (meaning price.now) (holding margin.now) self.old.ledger.state) }
+        ensures desk { self.new.desk ≡ desk_with (settle_desk (settle_refusal self.old.desk self.old.ledger.state (length archive.old) permit) (P.meaning price.now) (M.holding margin.now) self.old.desk self.old.ledger.state) (settle_moves (settle_refusal self.old.desk self.old.ledger.state (length archive.old) permit) (P.meaning price.now) (M.holding margin.now) self.old.ledger.state) }
+        ensures ledger { self.new.ledger.state ≡ settle_state (settle_refusal self.old.desk self.old.ledger.state (length archive.old) permit) (P.meaning price.now) (M.holding margin.now) self.old.ledger.state }
+        ensures bytes { archive.new ≡ bytes_with (settle_desk (settle_refusal self.old.desk self.old.ledger.state (length archive.old) permit) (P.meaning price.now) (M.holding margin.now) self.old.desk self.old.ledger.state) archive.old (settle_moves (settle_refusal self.old.desk self.old.ledger.state (length archive.old) permit) (P.meaning price.now) (M.holding margin.now) self.old.ledger.state) }
     {
         if let Some(refusal) = self.check_settle(archive.len(), &permit) {
             return Err((permit, refusal));

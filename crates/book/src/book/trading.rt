@@ -76,9 +76,9 @@ impl Book {
     }
 
     fn strike<M: MarginRule>(&mut self, rule: &M, deal: Deal, room: bool) -> Result<u64, Refusal>
-        ensures answer { result ≡ exchange_answer (bargain (opening rule.now) self.old.ledger.state deal room) deal }
+        ensures answer { result ≡ exchange_answer (bargain (M.opening rule.now) self.old.ledger.state deal room) deal }
         ensures desk { self.new.desk ≡ self.old.desk }
-        ensures ledger { self.new.ledger.state ≡ exchange_state (bargain (opening rule.now) self.old.ledger.state deal room) self.old.ledger.state deal }
+        ensures ledger { self.new.ledger.state ≡ exchange_state (bargain (M.opening rule.now) self.old.ledger.state deal room) self.old.ledger.state deal }
         ensures dealt { DealtIn deal room result }
     {
         self.ledger.exchange(rule, deal, room)
@@ -92,10 +92,10 @@ impl Book {
         rule: &M,
         deal: Deal,
     ) -> Result<DayPermit, (DayPermit, Refusal)>
-        ensures answer { result ≡ handed_back permit (trade_refusal (opening rule.now) self.old.desk self.old.ledger.state (length archive.old) permit deal) }
-        ensures desk { self.new.desk ≡ desk_with self.old.desk (trade_moves (trade_bargain (opening rule.now) self.old.desk self.old.ledger.state (length archive.old) permit deal) self.old.ledger.state deal) }
-        ensures ledger { self.new.ledger.state ≡ exchange_state (trade_bargain (opening rule.now) self.old.desk self.old.ledger.state (length archive.old) permit deal) self.old.ledger.state deal }
-        ensures bytes { archive.new ≡ bytes_with self.old.desk archive.old (trade_moves (trade_bargain (opening rule.now) self.old.desk self.old.ledger.state (length archive.old) permit deal) self.old.ledger.state deal) }
+        ensures answer { result ≡ handed_back permit (trade_refusal (M.opening rule.now) self.old.desk self.old.ledger.state (length archive.old) permit deal) }
+        ensures desk { self.new.desk ≡ desk_with self.old.desk (trade_moves (trade_bargain (M.opening rule.now) self.old.desk self.old.ledger.state (length archive.old) permit deal) self.old.ledger.state deal) }
+        ensures ledger { self.new.ledger.state ≡ exchange_state (trade_bargain (M.opening rule.now) self.old.desk self.old.ledger.state (length archive.old) permit deal) self.old.ledger.state deal }
+        ensures bytes { archive.new ≡ bytes_with self.old.desk archive.old (trade_moves (trade_bargain (M.opening rule.now) self.old.desk self.old.ledger.state (length archive.old) permit deal) self.old.ledger.state deal) }
     {
         if let Some(refusal) = self.check_entry(archive.len(), &permit) {
             return Err((permit, refusal));

@@ -16,8 +16,8 @@ impl Ledger {
         price: &P,
         margin: &M,
     ) -> Result<Settlement, Refusal>
-        ensures answer { result ≡ revalue_answer (meaning price.now) (holding margin.now) self.old.state }
-        ensures state { self.new.state ≡ revalue_state (meaning price.now) (holding margin.now) self.old.state }
+        ensures answer { result ≡ revalue_answer (P.meaning price.now) (M.holding margin.now) self.old.state }
+        ensures state { self.new.state ≡ revalue_state (P.meaning price.now) (M.holding margin.now) self.old.state }
     {
         if !self.state.stage.is_closed() {
             return Err(Refusal::WrongPhase);

@@ -17,8 +17,8 @@ impl Ledger {
         deal: Deal,
         room: bool,
     ) -> Result<u64, Refusal>
-        ensures answer { result ≡ exchange_answer (bargain (opening rule.now) self.old.state deal room) deal }
-        ensures state { self.new.state ≡ exchange_state (bargain (opening rule.now) self.old.state deal room) self.old.state deal }
+        ensures answer { result ≡ exchange_answer (bargain (M.opening rule.now) self.old.state deal room) deal }
+        ensures state { self.new.state ≡ exchange_state (bargain (M.opening rule.now) self.old.state deal room) self.old.state deal }
     {
         let bargain = weigh(&self.state, rule, &deal, room)?;
         let next = exchanged(&self.state, &deal, &bargain);

@@ -5,10 +5,10 @@ use Rattle.archive.proofs.Chains.{on_chain, chain_on, chain_broken, chain_end}
 use Rattle.archive.proofs.Gathering.{onto, onto_more, onto_end, onto_refused}
 use Rattle.archive.proofs.chain.gather.Goals as goal
 
-pub returns-in-default : goal.returns-in-default
-returns-in-default c =
+pub returns-in_default : goal.returns-in_default
+returns-in_default c =
     c.loop-slot.invariant.1
-    ∙ ap (onto (vec_items c.loop-slot.links)) (chain_broken _ _ _ (omega arith) (sym c.in-default.ensures))
+    ∙ ap (onto (vec_items c.loop-slot.links)) (chain_broken _ _ _ (omega arith) (sym c.in_default.ensures))
     ∙ onto_refused (vec_items c.loop-slot.links) _
 
 pub loop-slot-preserved : goal.loop-slot-preserved

@@ -15,4 +15,4 @@ loop-link-preserved c =
 pub returns : goal.returns
 returns c =
     let none = at_drop_all changes c.args.links.now c.loop-link.link-index (omega arith) in
-    summed _ _ _ _ (omega (arith, ints, none, c.loop-link.invariant.0)) c.try-from.ensures c.ok.ensures.value
+    summed _ _ _ _ (omega (arith, ints, none, c.loop-link.invariant.0)) c.try_from.ensures c.ok.ensures.value

@@ -10,5 +10,5 @@ returns-in-empty t c = search (rules, nil_from_length)
 pub returns-in-0 : goal.returns-in-0
 returns-in-0 t c = search (rules, first_rest)
 
-pub returns-in-default : goal.returns-in-default
-returns-in-default t c = grind (arith, nat_tests, first_rest)
+pub returns-in_default : goal.returns-in_default
+returns-in_default t c = grind (arith, nat_tests, first_rest)

@@ -7,8 +7,8 @@ use Rattle.archive.proofs.read.pick.Goals as goal
 pub loop-entry-init : goal.loop-entry-init
 loop-entry-init c = subst (Keeps (slot_at c.args.archive.now) c.args.account c.args.top c.args.k) (sym c.from-walk.ensures) (keeps_from _ _ _ _)
 
-pub returns-in-default : goal.returns-in-default
-returns-in-default c = keeps_broken _ _ _ _ c.loop-entry.walk (under_way _ c.loop-entry-test.ensures) (sym c.in-default.ensures) c.loop-entry.invariant
+pub returns-in_default : goal.returns-in_default
+returns-in_default c = keeps_broken _ _ _ _ c.loop-entry.walk (under_way _ c.loop-entry-test.ensures) (sym c.in_default.ensures) c.loop-entry.invariant
 
 pub loop-entry-preserved : goal.loop-entry-preserved
 loop-entry-preserved c =

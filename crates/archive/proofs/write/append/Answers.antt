@@ -6,7 +6,7 @@ use Rattle.archive.proofs.write.append.Goals as goal
 
 pub returns : goal.returns
 returns c =
-    let did = c.put-entry.ensures in
+    let did = c.put_entry.ensures in
     let fit : Fit (slot_of c.args.entry) = record { next = search rules; day = search rules; change = search rules; available = search rules; margin = search rules } in
     record {
       answer = did.answer;

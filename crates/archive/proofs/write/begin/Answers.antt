@@ -4,7 +4,7 @@ use Rattle.archive.proofs.write.begin.Goals as goal
 
 pub returns : goal.returns
 returns c =
-    let did = c.put-header.ensures in
+    let did = c.put_header.ensures in
     record {
       answer = did.answer;
       bytes = did.bytes;

@@ -5,7 +5,7 @@ use Rattle.chain.proofs.Listings.{lines_more}
 use Rattle.chain.proofs.listing.entries.Goals as goal
 
 pub loop-link-preserved : goal.loop-link-preserved
-loop-link-preserved c = lines_more _ _ _ c.args.links.now c.loop-link.link-index _ c.loop-link-test.true c.in-ok-entry-line.ensures c.loop-link.invariant
+loop-link-preserved c = lines_more _ _ _ c.args.links.now c.loop-link.link-index _ c.loop-link-test.true c.in_ok-entry_line.ensures c.loop-link.invariant
 
 pub returns : goal.returns
 returns c =

@@ -7,5 +7,5 @@ use Rattle.ledger.proofs.days.+are_priced.Goals as goal
 pub returns-in-empty : goal.returns-in-empty
 returns-in-empty t c = search (rules, nil_from_length)
 
-pub returns-then-is-priced : goal.returns-then-is-priced
-returns-then-is-priced t c = grind (arith, nat_tests, first_rest)
+pub returns-then-is_priced : goal.returns-then-is_priced
+returns-then-is_priced t c = grind (arith, nat_tests, first_rest)

@@ -1,5 +1,5 @@
 use Rattle.std.proofs.Common.{length}
 use Rattle.ledger.proofs.days.+are_priced.Given as goal
 
-abbrev pub decreases-are-priced : goal.decreases-are-priced
-decreases-are-priced l = length l.places.now
+abbrev pub decreases-are_priced : goal.decreases-are_priced
+decreases-are_priced l = length l.places.now

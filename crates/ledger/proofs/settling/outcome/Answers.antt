@@ -11,8 +11,8 @@ pub loop-place-preserved : goal.loop-place-preserved
 loop-place-preserved g c =
     let a = c.args in
     let inv = c.loop-place.invariant in (
-      c.with-row-sums.ensures.value
+      c.with_row-sums.ensures.value
           ∙ ap (λ (x : Outcome). added x (outcome_at (g.M.MarginRule.holding a.rule.now) a.state.now a.prices.now a.account c.loop-place.place)) inv.0
           ∙ sym (outcome_more (g.M.MarginRule.holding a.rule.now) a.state.now a.prices.now a.account c.loop-place.place),
-      c.with-row-sums.ensures.near,
+      c.with_row-sums.ensures.near,
     )

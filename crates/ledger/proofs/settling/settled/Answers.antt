@@ -13,18 +13,18 @@ outcomes-outcomes-requires g c = record {
   priced = subst Priced (sym c.prices-prices.ensures) (prices_small (g.P.PriceRule.meaning c.args.price.now) c.args.state.now (g.met.P.PriceRule.inside c.args.price.now) c.requires.sound c.requires.closed);
 }
 
-pub overflow-add-next : goal.overflow-add-next
-overflow-add-next g c =
+pub overflow_add-next : goal.overflow_add-next
+overflow_add-next g c =
     let s = c.args.state.now in
     let sound = c.requires.sound in
-    omega (arith, sound.fees.0, days_small s sound, taken_small s sound, c.delivery-fees.ensures.most)
+    omega (arith, sound.fees.0, days_small s sound, taken_small s sound, c.delivery_fees.ensures.most)
 
 pub returns : goal.returns
 returns g c =
     let s = c.args.state.now in
     let h = g.M.MarginRule.holding c.args.margin.now in
     record {
-      state = assembled h s _ c.prices-prices.result c.outcomes-outcomes.result _ _ _ _ c.prices-prices.ensures c.outcomes-outcomes.ensures.value c.delivery-fees.ensures.value c.accounts.ensures c.places.ensures c.table.ensures;
+      state = assembled h s _ c.prices-prices.result c.outcomes-outcomes.result _ _ _ _ c.prices-prices.ensures c.outcomes-outcomes.ensures.value c.delivery_fees.ensures.value c.accounts.ensures c.places.ensures c.table.ensures;
       near = λ a l. subst (Near 12) (each h s _ c.prices-prices.result c.outcomes-outcomes.result c.prices-prices.ensures c.outcomes-outcomes.ensures.value a l) (c.outcomes-outcomes.ensures.near a l);
       said = assembled_said h s _ c.prices-prices.result c.outcomes-outcomes.result _ _ c.prices-prices.ensures c.outcomes-outcomes.ensures.value c.contracts.ensures c.changes.ensures;
     }

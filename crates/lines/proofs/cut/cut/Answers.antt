@@ -9,6 +9,6 @@ pub returns-in-len1-up : goal.returns-in-len1-up
 returns-in-len1-up c =
     record {
       front = search rules;
-      back = take_rest c.split-at.result.1.now 1 ∙ ap (drop 1) c.split-at.ensures.back ∙ drop-drop 1 c.passed-before.result c.args.bytes.now ∙ ap (λ (n : ℕ). drop (n + 1) c.args.bytes.now) c.passed-before.ensures.exact;
+      back = take_rest c.split_at.result.1.now 1 ∙ ap (drop 1) c.split_at.ensures.back ∙ drop-drop 1 c.passed_before.result c.args.bytes.now ∙ ap (λ (n : ℕ). drop (n + 1) c.args.bytes.now) c.passed_before.ensures.exact;
       less = search rules;
     }

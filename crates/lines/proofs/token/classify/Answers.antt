@@ -6,9 +6,9 @@ pub returns-in-Some : goal.returns-in-Some
 unfolding token_of
 returns-in-Some c = search rules
 
-pub returns-in-Some-read-side : goal.returns-in-Some-read-side
+pub returns-in-Some-read_side : goal.returns-in-Some-read_side
 unfolding token_of
-returns-in-Some-read-side c = search rules
+returns-in-Some-read_side c = search rules
 
 pub returns : goal.returns
 unfolding token_of

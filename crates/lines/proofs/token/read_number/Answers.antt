@@ -3,5 +3,5 @@ use Rattle.std.proofs.lemmas.Bool.Decides.{nat_tests}
 use Rattle.lines.proofs.Rooms.{room_first}
 use Rattle.lines.proofs.token.read_number.Goals as goal
 
-pub read-digits-requires : goal.read-digits-requires
-read-digits-requires c = room_first (length c.args.text.now) (grind (arith, nat_tests))
+pub read_digits-requires : goal.read_digits-requires
+read_digits-requires c = room_first (length c.args.text.now) (grind (arith, nat_tests))

@@ -13,7 +13,7 @@ returns c =
     let e = c.pay_in.ensures in
     let o = pay_in_refusal b.desk s (length a.archive.now) a.permit a.account a.fen in
     record {
-      same = c.handed-back.ensures a.permit o e.answer;
+      same = c.handed_back.ensures a.permit o e.answer;
       own = λ p good.
           still_good b.desk c.pay_in.new.self.desk (pay_in_moves o s a.account a.fen) s (credit_state o s a.account a.fen) c.pay_in.new.self.ledger.state p p refl
           e.desk e.ledger (credit_stage o s a.account a.fen) (credit_day o s a.account a.fen) good;

@@ -5,8 +5,8 @@ use Rattle.book.specs.Held.{RoomIn, RestIn}
 use Rattle.book.proofs.Staged.{close_room, close_rest}
 use Rattle.book.proofs.book.Book.close.Goals as goal
 
-pub invariant-of-self : goal.invariant-of-self
-invariant-of-self c =
+pub invariant_of-self : goal.invariant_of-self
+invariant_of-self c =
     let b = c.args.self.now in
     let s = b.ledger.state in
     let is = sym c.close-answer.ensures.state in

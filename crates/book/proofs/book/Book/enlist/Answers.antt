@@ -3,8 +3,8 @@ use Rattle.ledger.specs.declared.state.State.{State}
 use Rattle.book.proofs.Staged.{same_stage, same_rest, list_stage}
 use Rattle.book.proofs.book.Book.enlist.Goals as goal
 
-pub invariant-of-self : goal.invariant-of-self
-invariant-of-self c =
+pub invariant_of-self : goal.invariant_of-self
+invariant_of-self c =
     let b = c.args.self.now in
     let s = b.ledger.state in
     let u = c.list.new.self.state in

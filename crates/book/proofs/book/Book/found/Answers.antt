@@ -5,13 +5,13 @@ use Rattle.book.specs.declared.desk.Desk.{Desk}
 use Rattle.book.proofs.Founded.{founds, founded_slots, resting_room}
 use Rattle.book.proofs.book.Book.found.Goals as goal
 
-pub begin-archive-slots-requires : goal.begin-archive-slots-requires
-begin-archive-slots-requires c =
-    let may = founds c.args.self.now.desk (length c.args.archive.now) c.args.number (sym c.check-founding.ensures ∙ c.in-default.is) in
+pub begin_archive-slots-requires : goal.begin_archive-slots-requires
+begin_archive-slots-requires c =
+    let may = founds c.args.self.now.desk (length c.args.archive.now) c.args.number (sym c.check_founding.ensures ∙ c.in_default.is) in
     record { begins = may.begins; sizes = (may.named, may.most) }
 
-pub invariant-of-self : goal.invariant-of-self
-invariant-of-self c =
-    let may = founds c.args.self.now.desk (length c.args.archive.now) c.args.number (sym c.check-founding.ensures ∙ c.in-default.is) in
-    let slots = c.begin-archive-slots.ensures.slots in
-    (founded_slots c.desk-self.result c.args.number c.begin-archive-slots.result c.desk-self.ensures (subst (λ (n : ℕ). 64 ≤ n) (sym slots) may.least) (subst (λ (n : ℕ). n ≤ 262144) (sym slots) may.most), (resting_room c.desk-self.result c.in-ok-ledger.ledger.state (ap (λ (x : State). is_resting x.stage) c.in-ok-ledger.ensures.1), (λ _. ap (λ (x : Desk). x.laid) c.desk-self.ensures, tt)))
+pub invariant_of-self : goal.invariant_of-self
+invariant_of-self c =
+    let may = founds c.args.self.now.desk (length c.args.archive.now) c.args.number (sym c.check_founding.ensures ∙ c.in_default.is) in
+    let slots = c.begin_archive-slots.ensures.slots in
+    (founded_slots c.desk-self.result c.args.number c.begin_archive-slots.result c.desk-self.ensures (subst (λ (n : ℕ). 64 ≤ n) (sym slots) may.least) (subst (λ (n : ℕ). n ≤ 262144) (sym slots) may.most), (resting_room c.desk-self.result c.in_ok-ledger.ledger.state (ap (λ (x : State). is_resting x.stage) c.in_ok-ledger.ensures.1), (λ _. ap (λ (x : Desk). x.laid) c.desk-self.ensures, tt)))

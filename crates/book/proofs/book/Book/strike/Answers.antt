@@ -5,8 +5,8 @@ use Rattle.book.proofs.Staged.{same_stage, same_rest}
 use Rattle.book.proofs.Striking.{dealt_in, exchange_stage}
 use Rattle.book.proofs.book.Book.strike.Goals as goal
 
-pub invariant-of-self : goal.invariant-of-self
-invariant-of-self g c =
+pub invariant_of-self : goal.invariant_of-self
+invariant_of-self g c =
     let b = c.args.self.now in
     let s = b.ledger.state in
     let u = c.exchange.new.self.state in

@@ -6,8 +6,8 @@ use Rattle.book.proofs.Entering.{settled_slots, with_laid_kept}
 use Rattle.book.proofs.Founded.{resting_room}
 use Rattle.book.proofs.book.Book.write_settlement.Goals as goal
 
-pub invariant-of-self : goal.invariant-of-self
-invariant-of-self c =
+pub invariant_of-self : goal.invariant_of-self
+invariant_of-self c =
     let b = c.args.self.now in
     let d = with_settled b.desk c.args.said.now.contracts in
-    (settled_slots d c.enter-settlement.new.desk c.day-day.result c.accounts-accounts.result c.args.said.now.changes c.enter-settlement.ensures.desk (search rules) (search rules) (search rules), (resting_room c.enter-settlement.new.desk b.ledger.state c.requires.rests, (λ _. ap (λ (x : Desk). x.laid) c.enter-settlement.ensures.desk ∙ with_laid_kept (settlement_moves c.day-day.result c.accounts-accounts.result c.args.said.now.changes) d ∙ b.rest c.requires.rests, tt)))
+    (settled_slots d c.enter_settlement.new.desk c.day-day.result c.accounts-accounts.result c.args.said.now.changes c.enter_settlement.ensures.desk (search rules) (search rules) (search rules), (resting_room c.enter_settlement.new.desk b.ledger.state c.requires.rests, (λ _. ap (λ (x : Desk). x.laid) c.enter_settlement.ensures.desk ∙ with_laid_kept (settlement_moves c.day-day.result c.accounts-accounts.result c.args.said.now.changes) d ∙ b.rest c.requires.rests, tt)))

@@ -4,10 +4,10 @@ use Rattle.ledger.proofs.Opening.{close_keeps}
 use Rattle.ledger.proofs.Types.{invariant}
 use Rattle.ledger.proofs.ledger.Ledger.close.Goals as goal
 
-pub invariant-of-self : goal.invariant-of-self
-invariant-of-self c =
+pub invariant_of-self : goal.invariant_of-self
+invariant_of-self c =
     let a = c.args in
     let s = a.self.now.state in
     let sound : Sound s = search rules in
-    let kept = close_keeps s a.rate sound (sym c.check-close.ensures ∙ c.in-default.is) in
+    let kept = close_keeps s a.rate sound (sym c.check_close.ensures ∙ c.in_default.is) in
     invariant _ (subst Sound (sym c.closed-next.ensures) kept)

@@ -5,11 +5,11 @@ use Rattle.ledger.proofs.Banking.{credit_keeps}
 use Rattle.ledger.proofs.Types.{invariant}
 use Rattle.ledger.proofs.ledger.Ledger.credit.Goals as goal
 
-pub invariant-of-self : goal.invariant-of-self
-invariant-of-self c =
+pub invariant_of-self : goal.invariant_of-self
+invariant_of-self c =
     let a = c.args in
     let s = a.self.now.state in
     let long : length s.accounts ≡ 32 = search rules in
     let sound : Sound s = search rules in
-    let kept = credit_keeps s a.account a.fen a.room long sound (sym c.check-credit.ensures ∙ c.in-default.is) in
+    let kept = credit_keeps s a.account a.fen a.room long sound (sym c.check_credit.ensures ∙ c.in_default.is) in
     invariant _ (subst Sound (sym c.credited-next.ensures) kept)

@@ -5,11 +5,11 @@ use Rattle.ledger.proofs.Banking.{debit_keeps}
 use Rattle.ledger.proofs.Types.{invariant}
 use Rattle.ledger.proofs.ledger.Ledger.debit.Goals as goal
 
-pub invariant-of-self : goal.invariant-of-self
-invariant-of-self c =
+pub invariant_of-self : goal.invariant_of-self
+invariant_of-self c =
     let a = c.args in
     let s = a.self.now.state in
     let long : length s.accounts ≡ 32 = search rules in
     let sound : Sound s = search rules in
-    let kept = debit_keeps s a.account a.fen a.room long sound (sym c.check-debit.ensures ∙ c.in-default.is) in
+    let kept = debit_keeps s a.account a.fen a.room long sound (sym c.check_debit.ensures ∙ c.in_default.is) in
     invariant _ (subst Sound (sym c.debited-next.ensures) kept)

@@ -10,8 +10,8 @@ exchanged-next-requires g c =
     let s = a.self.now.state in
     let sound : Sound s = search rules in
     let opening = g.M.MarginRule.opening a.rule.now in
-    let k = struck opening s a.deal a.room c.in-ok-bargain.bargain (sym c.in-ok-bargain.ensures) in
-    tradable opening s a.deal a.room c.in-ok-bargain.bargain (g.met.M.MarginRule.opens a.rule.now) sound k
+    let k = struck opening s a.deal a.room c.in_ok-bargain.bargain (sym c.in_ok-bargain.ensures) in
+    tradable opening s a.deal a.room c.in_ok-bargain.bargain (g.met.M.MarginRule.opens a.rule.now) sound k
 
 pub fee-requires : goal.fee-requires
 fee-requires g c =
@@ -19,12 +19,12 @@ fee-requires g c =
     let s = a.self.now.state in
     let sound : Sound s = search rules in
     let opening = g.M.MarginRule.opening a.rule.now in
-    let k = struck opening s a.deal a.room c.in-ok-bargain.bargain (sym c.in-ok-bargain.ensures) in
-    let t = tradable opening s a.deal a.room c.in-ok-bargain.bargain (g.met.M.MarginRule.opens a.rule.now) sound k in
+    let k = struck opening s a.deal a.room c.in_ok-bargain.bargain (sym c.in_ok-bargain.ensures) in
+    let t = tradable opening s a.deal a.room c.in_ok-bargain.bargain (g.met.M.MarginRule.opens a.rule.now) sound k in
     (t.fee, t.range.most)
 
-pub invariant-of-self : goal.invariant-of-self
-invariant-of-self g c =
+pub invariant_of-self : goal.invariant_of-self
+invariant_of-self g c =
     let a = c.args in
     let s = a.self.now.state in
     let la : length s.accounts ≡ 32 = search rules in
@@ -32,5 +32,5 @@ invariant-of-self g c =
     let lr : length s.table.rows ≡ 384 = search rules in
     let sound : Sound s = search rules in
     let opening = g.M.MarginRule.opening a.rule.now in
-    let k = struck opening s a.deal a.room c.in-ok-bargain.bargain (sym c.in-ok-bargain.ensures) in
-    invariant _ (subst Sound (sym c.exchanged-next.ensures) (exchange_keeps opening s a.deal a.room c.in-ok-bargain.bargain la lp lr sound k))
+    let k = struck opening s a.deal a.room c.in_ok-bargain.bargain (sym c.in_ok-bargain.ensures) in
+    invariant _ (subst Sound (sym c.exchanged-next.ensures) (exchange_keeps opening s a.deal a.room c.in_ok-bargain.bargain la lp lr sound k))

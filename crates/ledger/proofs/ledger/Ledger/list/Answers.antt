@@ -4,11 +4,11 @@ use Rattle.ledger.proofs.Listings.{list_keeps}
 use Rattle.ledger.proofs.Types.{invariant}
 use Rattle.ledger.proofs.ledger.Ledger.list.Goals as goal
 
-pub invariant-of-self : goal.invariant-of-self
-invariant-of-self c =
+pub invariant_of-self : goal.invariant_of-self
+invariant_of-self c =
     let a = c.args in
     let s = a.self.now.state in
     let long : length s.places ≡ 12 = search rules in
     let sound : Sound s = search rules in
-    let kept = list_keeps s a.listing long sound (sym c.check-list.ensures ∙ c.in-default.is) in
+    let kept = list_keeps s a.listing long sound (sym c.check_list.ensures ∙ c.in_default.is) in
     invariant _ (subst Sound (sym c.listed-next.ensures) kept)

@@ -5,9 +5,9 @@ use Rattle.lines.proofs.cursor.Cursor.column_after.Goals as goal
 
 pub loop-piece-preserved : goal.loop-piece-preserved
 loop-piece-preserved c =
-    ap (ahead (c.args.pieces - (c.loop-piece.-piece + 1))) c.token.ensures.moved
-    ∙ sym (ahead_more (spot c.loop-piece.self) (c.args.pieces - c.loop-piece.-piece) (c.args.pieces - (c.loop-piece.-piece + 1)) (omega arith))
+    ap (ahead (c.args.pieces - (c.loop-piece._piece + 1))) c.token.ensures.moved
+    ∙ sym (ahead_more (spot c.loop-piece.self) (c.args.pieces - c.loop-piece._piece) (c.args.pieces - (c.loop-piece._piece + 1)) (omega arith))
     ∙ c.loop-piece.invariant
 
 pub returns : goal.returns
-returns c = ap (λ (s : Spot). s.column) (sym (ahead_none (spot c.loop-piece.self) (c.args.pieces - c.loop-piece.-piece) (omega arith)) ∙ c.loop-piece.invariant)
+returns c = ap (λ (s : Spot). s.column) (sym (ahead_none (spot c.loop-piece.self) (c.args.pieces - c.loop-piece._piece) (omega arith)) ∙ c.loop-piece.invariant)
