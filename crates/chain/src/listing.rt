@@ -7,7 +7,7 @@ use archive::chain::{ChainError, chain, sum_of_changes};
 use archive::entry::Link;
 use lines::amount::{Amount, Magnitude};
 use refusal::Refusal;
-use std::alloc::Global;
+use std::alloc::{AllocError, Global};
 use std::fmt;
 
 // Why there is no listing.
@@ -36,14 +36,14 @@ impl fmt::Display for Line {
     }
 }
 
-fn entry_line(text: &mut String, link: &Link) -> fmt::Result
+fn entry_line(text: &mut String, link: &Link) -> Result<(), AllocError>
     ensures { OnOk result (string_bytes text.new ≡ string_bytes text.old ++ (line_of link.now ++ (10 ∷ []))) }
 {
     let line = Line(*link);
     writeln!(text, "{line}")
 }
 
-fn entries(text: &mut String, links: &[Link]) -> fmt::Result
+fn entries(text: &mut String, links: &[Link]) -> Result<(), AllocError>
     ensures { OnOk result (string_bytes text.new ≡ string_bytes text.old ++ lines_of links.now) }
 {
     for link in links {
@@ -52,14 +52,14 @@ fn entries(text: &mut String, links: &[Link]) -> fmt::Result
     Ok(())
 }
 
-fn total_line(text: &mut String, count: usize, sum: i64) -> fmt::Result
+fn total_line(text: &mut String, count: usize, sum: i64) -> Result<(), AllocError>
     ensures { OnOk result (string_bytes text.new ≡ string_bytes text.old ++ total_of count sum) }
 {
     let equity = Amount(sum);
     writeln!(text, "entries {count} equity {equity}")
 }
 
-fn listed(heap: Global, links: &[Link], sum: i64) -> Result<String, fmt::Error>
+fn listed(heap: Global, links: &[Link], sum: i64) -> Result<String, AllocError>
     ensures { IfOk result (λ t. string_bytes t ≡ lines_of links.now ++ total_of (length links.now) sum) }
 {
     let mut text = String::new(heap);

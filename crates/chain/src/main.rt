@@ -6,6 +6,7 @@ use anyhow::anyhow;
 use listing::{Fault, report};
 use refusal::Refusal;
 use std::io::Write;
+use std::process::ExitCode;
 use std::{env, fs};
 
 const USAGE: &str = "usage: chain FILE ACCOUNT (an archive's file, and an account from 1 to 32)";
@@ -29,7 +30,7 @@ fn print(rt: &HostRuntime, bytes: &[u8], account: u64) -> anyhow::Result<()> {
         Err(Fault::Refused(refusal)) => {
             let number = refusal.number();
             let why = meaning(refusal);
-            Err(anyhow!(format!(in rt.alloc(); "refused {number} {why}")?))
+            Err(anyhow!("refused {number} {why}"))
         }
         Err(Fault::NoSum) => Err(anyhow!(
             "the changes do not sum to an amount of 64 bits: no book wrote this archive"
@@ -42,21 +43,22 @@ fn run(rt: &HostRuntime) -> anyhow::Result<()> {
     let mut args = env::args(rt)?;
     let _program = args.next();
     let (Some(path), Some(account), None) = (args.next(), args.next(), args.next()) else {
-        return Err(USAGE.into());
+        return Err(anyhow!("{USAGE}"));
     };
     let Ok(account) = account.as_str().parse::<u64>() else {
-        return Err(USAGE.into());
+        return Err(anyhow!("{USAGE}"));
     };
     let bytes = fs::read(rt, path.as_str())?;
     print(rt, bytes.as_slice(), account)
 }
 
-fn main(rt: HostRuntime) -> anyhow::Result<()> {
+// The message is one line of its own, so main hands out the status and not the error.
+fn main(rt: HostRuntime) -> anyhow::Result<ExitCode> {
     match run(&rt) {
-        Ok(()) => Ok(()),
+        Ok(()) => Ok(ExitCode::SUCCESS),
         Err(e) => {
             eprintln!(rt; "{e}")?;
-            Err(e)
+            Ok(ExitCode::FAILURE)
         }
     }
 }
