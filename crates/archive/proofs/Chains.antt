@@ -1,5 +1,5 @@
 -- Laws of chains, and of the slots where they begin.
-use Rattle.std.proofs.Common.{◌≡◌, ℕ, zero, suc, ◌+◌, ◌-◌, ◌*◌, ◌/◌, ◌<◌, ◌≤◌, Bool, true, false, cond, ◌&&◌, eqb, ltb, leb, ◌⊎◌, List, [], ◌∷◌, ◌++◌, length, Some, None, Ok, Err, Option, Result, sym, refl, ap, ◌∙◌, subst, inl, inr, ⊎_elim, arith}
+use Rattle.std.proofs.Common.{◌≡◌, ℕ, zero, suc, ◌+◌, ◌-◌, ◌*◌, ◌<◌, ◌≤◌, true, ◌&&◌, eqb, ltb, List, [], length, Some, None, Ok, Err, Option, Result, sym, refl, ap, ◌∙◌, ⊎_elim, arith}
 use Rattle.std.proofs.lemmas.Bool.{and_parts, ltb-true, eq-eqb, ne_eqb, cond-true, cond-false, cases_Bool}
 use Rattle.std.proofs.lemmas.Bool.Decides.{nat_tests}
 use Rattle.refusal.specs.declared.Refusal.{Refusal}
@@ -9,8 +9,8 @@ use Rattle.archive.specs.declared.entry.Kind.{Kind}
 use Rattle.archive.specs.declared.entry.Link.{Link}
 use Rattle.archive.specs.declared.layout.Slot.{Slot}
 use Rattle.archive.specs.Kinds.{kind_of}
-use Rattle.archive.specs.Layout.{with_kind, entry_of, slot_at, used_in}
-use Rattle.archive.specs.Chain.{last, entry_on, link, before, joined, follow, chain_from, kth, picked, headed, known_account, unless, reader_refusal, chain_of, newest}
+use Rattle.archive.specs.Layout.{with_kind, slot_at, used_in}
+use Rattle.archive.specs.Chain.{last, entry_on, link, before, joined, follow, chain_from, headed, known_account, unless, reader_refusal, chain_of, newest}
 
 -- An entry keeps the numbers of its slot.
 kept_next : (x : Slot) (o : Option Kind) (e : Entry) → with_kind x o ≡ Some e → e.next ≡ x.next

@@ -1,7 +1,7 @@
 -- What beginning an archive and one more entry do to the chains.
-use Rattle.std.proofs.Common.{◌≡◌, ℕ, zero, suc, ◌+◌, ◌-◌, ◌*◌, ◌/◌, ◌%◌, ◌^◌, ◌<◌, ◌≤◌, min, Bool, true, false, cond, not, ◌&&◌, eqb, ltb, leb, ◌⊎◌, List, [], ◌∷◌, length, get_or, take, drop, Some, None, Ok, Option, Result, sym, refl, ap, ◌∙◌, subst, inl, inr, ⊎_elim, arith, rules}
+use Rattle.std.proofs.Common.{◌≡◌, ℕ, zero, suc, ◌+◌, ◌-◌, ◌*◌, ◌/◌, ◌^◌, ◌<◌, ◌≤◌, min, Bool, true, false, cond, not, eqb, ltb, leb, List, [], ◌∷◌, length, get_or, take, drop, Some, None, Ok, Result, sym, refl, ap, ◌∙◌, subst, inl, inr, arith, rules}
 use Rattle.std.proofs.lemmas.List.{places, ext_get_or, length-take, length-drop}
-use Rattle.std.proofs.lemmas.Bool.{and_from, and_parts, eq-eqb, lt-ltb, le-leb, leb-false, ltb-true, eqb-false, cond-true}
+use Rattle.std.proofs.lemmas.Bool.{and_from, and_parts, eq-eqb, lt-ltb, leb-false, ltb-true, eqb-false, cond-true}
 use Rattle.std.proofs.lemmas.Bool.Decides.{nat_tests}
 use Rattle.refusal.specs.declared.Refusal.{Refusal}
 use Rattle.refusal.specs.declared.Refusal.TheVariants.{ArchiveLength, OutOfRange, NoRoom, NotAnArchive}
@@ -9,11 +9,11 @@ use Rattle.refusal.specs.Reasons.{first, answered}
 use Rattle.archive.specs.declared.entry.Entry.{Entry}
 use Rattle.archive.specs.declared.entry.Link.{Link}
 use Rattle.archive.specs.declared.layout.Slot.{Slot}
-use Rattle.archive.specs.Layout.{allowed, be4, num2, num4, encoded, slot_at, slot_of, entry_of, header, used_in, patched}
-use Rattle.archive.specs.Chain.{last, entry_on, link, before, joined, follow, chain_from, zeros, headed, known_account, reader_refusal, unless, newest, chain_of}
+use Rattle.archive.specs.Layout.{allowed, be4, num2, encoded, slot_at, slot_of, entry_of, header, used_in, patched}
+use Rattle.archive.specs.Chain.{last, entry_on, link, before, joined, follow, chain_from, zeros, headed, known_account, unless, newest, chain_of}
 use Rattle.archive.specs.Written.{begin_refusal, begun, append_refusal, appended, Empty, Continues, Grown, Stored}
-use Rattle.archive.proofs.Chains.{on_chain, chain_on, chain_end, chain_read, next_below, last_here, last_below, last_none, last_le}
-use Rattle.archive.proofs.Layouts.{inside, outside, long_patched, be2_back, be4_back, num2_alike, long_encoded, Fit, written, untouched, entry_back}
+use Rattle.archive.proofs.Chains.{chain_on, chain_end, next_below, last_here, last_below, last_none, last_le}
+use Rattle.archive.proofs.Layouts.{outside, long_patched, be2_back, be4_back, num2_alike, long_encoded, Fit, written, untouched, entry_back}
 
 -- Two archives that hold the same slots up to slot n.
 abbrev Same : ℕ → (ℕ → Slot) → (ℕ → Slot) → Type 0

@@ -1,15 +1,14 @@
 -- What is read back from patched bytes: the slot that was written, and every other slot as it was.
-use Rattle.std.proofs.Common.{◌≡◌, ℕ, ◌+◌, ◌-◌, ◌*◌, ◌/◌, ◌%◌, ◌^◌, ◌<◌, ◌≤◌, ◌≢◌, ◌⊎◌, List, [], ◌∷◌, ◌++◌, length, get_or, take, drop, ℤ, Some, sym, refl, ap, ◌∙◌, inl, inr, ⊎_elim, add-zero, arith, w64, SFits, to_z, of_z, rules}
+use Rattle.std.proofs.Common.{◌≡◌, ℕ, ◌+◌, ◌*◌, ◌/◌, ◌%◌, ◌^◌, ◌<◌, ◌≤◌, ◌⊎◌, List, length, get_or, ℤ, Some, refl, ap, ◌∙◌, inl, inr, ⊎_elim, add-zero, arith, w64, SFits, to_z, of_z, rules}
 use lib.Arith.{mod-mul}
-use Rattle.std.proofs.lemmas.List.{places, ext_get_or}
+use Rattle.std.proofs.lemmas.List.{places}
 use Rattle.std.proofs.lemmas.Int.{to_z-of_z}
-use Rattle.std.proofs.lemmas.Bool.{cases_lt}
 use Rattle.archive.specs.declared.entry.Entry.{Entry}
 use Rattle.archive.specs.declared.entry.Kind.{Kind}
 use Rattle.archive.specs.declared.entry.Kind.TheVariants.{PayIn, PayOut, TradeFee, Settlement}
 use Rattle.archive.specs.declared.layout.Slot.{Slot}
 use Rattle.archive.specs.Kinds.{kind_byte, kind_of}
-use Rattle.archive.specs.Layout.{be2, be4, be8, num2, num4, num8, encoded, slot_at, slot_of, with_kind, entry_of, header, patched}
+use Rattle.archive.specs.Layout.{be2, be4, be8, num2, num4, num8, encoded, slot_at, slot_of, with_kind, entry_of, patched}
 
 pub inside : (xs : List ℕ) (i n : ℕ) (bs : List ℕ) (j k : ℕ) → i ≤ length xs → j ≡ i + k → k < length bs → get_or (patched xs i n bs) j 0 ≡ get_or bs k 0
 inside xs i n bs j k l e h = search (rules, places)

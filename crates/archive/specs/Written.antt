@@ -1,6 +1,6 @@
 -- What beginning an archive and appending to it leave in its bytes, and what that does to the chains
 -- (docs/ARCHIVE.md, "Writing").
-use Rattle.std.specs.Prelude.{◌≡◌, ℕ, ◌+◌, ◌*◌, ◌/◌, Bool, true, not, List, [], ◌∷◌, Some, None, Ok, Option, ◌==◌, ◌≢◌, nat_le}
+use Rattle.std.specs.Prelude.{◌≡◌, ℕ, ◌+◌, ◌*◌, ◌/◌, true, not, List, [], ◌∷◌, Some, None, Ok, Option, ◌==◌, ◌≢◌, nat_le}
 use Rattle.refusal.specs.declared.Refusal.{Refusal}
 use Rattle.refusal.specs.declared.Refusal.TheVariants.{ArchiveLength, OutOfRange, NoRoom}
 use Rattle.refusal.specs.Reasons.{first}

@@ -1,9 +1,8 @@
 -- What the program prints of a chain (docs/RULES.md, "A chain").
-use Rattle.std.specs.Prelude.{◌≡◌, ℕ, cond, List, [], ◌∷◌, ◌++◌, length, ℤ, Ok, Err, string_bytes, codes, decimal, Result, String, FitsSigned}
+use Rattle.std.specs.Prelude.{◌≡◌, ℕ, List, [], ◌∷◌, ◌++◌, length, ℤ, Ok, Err, string_bytes, codes, decimal, Result, String, FitsSigned}
 use Rattle.std.specs.Int.{w64}
 use Rattle.std.specs.declared.alloc.Global.{Global}
 use Rattle.refusal.specs.declared.Refusal.{Refusal}
-use Rattle.refusal.specs.Numbered.{number_of}
 use Rattle.archive.specs.declared.entry.Link.{Link}
 use Rattle.archive.specs.Gathered.{changes}
 use Rattle.archive.specs.Kinds.{kind_name}

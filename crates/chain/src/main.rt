@@ -1,5 +1,7 @@
 // chain FILE ACCOUNT: prints an account's entries from an archive file, newest first, and their sum. What is printed
 // is worked out and proved in `listing`; here are only the arguments, the file and the messages.
+#![tactic(auto)]
+
 mod listing;
 
 use anyhow::anyhow;

@@ -1,4 +1,6 @@
 // A sound archive, spoiled in every way that the reader refuses, and what the reader answers each time.
+#![tactic(auto)]
+
 use archive::entry::{Entry, Kind};
 use archive::read::read;
 use archive::write::{append, begin};

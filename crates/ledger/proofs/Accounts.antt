@@ -1,10 +1,10 @@
 -- One account changed, every other as it was.
-use Rattle.std.proofs.Common.{◌≡◌, ℕ, ◌+◌, ◌*◌, ◌<◌, ◌≤◌, ◌⊎◌, List, length, get_or, set, sym, ◌∙◌, subst, inl, inr, arith}
+use Rattle.std.proofs.Common.{◌≡◌, ℕ, ◌<◌, List, length, get_or, set, sym, subst, inl, inr, arith}
 use Rattle.std.proofs.lemmas.List.{get_or-set_same, get_or-set_other}
 use Rattle.std.proofs.lemmas.Bool.{cases_eq}
 use Rattle.ledger.specs.declared.state.Account.{Account}
 use Rattle.ledger.specs.declared.state.State.{State}
-use Rattle.ledger.specs.Places.{account_at, no_account, with_account}
+use Rattle.ledger.specs.Places.{no_account, with_account}
 use Rattle.ledger.specs.Sound.{Sound, Bounded, Counted, settled_days, taken}
 
 -- What holds of every account of a list holds after one of them is replaced.

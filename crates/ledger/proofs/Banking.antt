@@ -1,14 +1,14 @@
 -- Pay-ins and pay-outs keep a ledger sound.
-use Rattle.std.proofs.Common.{◌≡◌, ℕ, ◌+◌, ◌-◌, ◌*◌, ◌<◌, ◌≤◌, Bool, true, false, not, ◌&&◌, ◌||◌, eqb, ltb, leb, length, ℤ, pos, ◌+ℤ◌, ◌-ℤ◌, neg_ℤ, ◌≤ℤ◌, None, arith}
+use Rattle.std.proofs.Common.{◌≡◌, ℕ, ◌+◌, ◌-◌, ◌*◌, ◌<◌, ◌≤◌, Bool, false, not, eqb, leb, length, ℤ, pos, ◌≤ℤ◌, None, arith}
 use lib.Signed.{lt_z}
 use Rattle.std.proofs.lemmas.Int.{ints}
-use Rattle.std.proofs.lemmas.Bool.{and_parts, or_parts, not-false, leb-true, leb-false, ltb-false, eqb-false}
+use Rattle.std.proofs.lemmas.Bool.{and_parts, or_parts, not-false, leb-true, leb-false, ltb-false}
 use Rattle.refusal.proofs.Passed.{passed}
 use Rattle.ledger.specs.declared.state.Account.{Account}
 use Rattle.ledger.specs.declared.state.State.{State}
 use Rattle.ledger.specs.Cash.{credit_reasons, debit_reasons, credit_refusal, credit_state, credited_account, debit_refusal, debit_state, debited_account}
-use Rattle.ledger.specs.Places.{account_at, known_account, is_open, equity}
-use Rattle.ledger.specs.Sound.{Sound, Bounded, Counted, settled_days, taken}
+use Rattle.ledger.specs.Places.{account_at, known_account}
+use Rattle.ledger.specs.Sound.{Sound, Bounded, settled_days, taken}
 use Rattle.ledger.proofs.Accounts.{account_keeps}
 
 known : (a : ℕ) → not (known_account a) ≡ false → (1 ≤ a) × (a ≤ 32)

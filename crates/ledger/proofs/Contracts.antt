@@ -1,12 +1,9 @@
 -- One contract changed, every other place as it was.
-use Rattle.std.proofs.Common.{◌≡◌, ℕ, zero, suc, ◌+◌, ◌-◌, ◌*◌, ◌%◌, ◌<◌, ◌≤◌, Bool, true, false, not, ◌&&◌, ◌||◌, eqb, ltb, leb, ◌⊎◌, List, length, get_or, set, Some, None, Option, sym, refl, ap, ◌∙◌, subst, inl, inr, arith}
-use Rattle.std.proofs.lemmas.Nat.{mod_below}
+use Rattle.std.proofs.Common.{◌≡◌, ℕ, ◌*◌, ◌%◌, ◌<◌, ◌≤◌, true, false, not, ◌||◌, eqb, ltb, leb, List, length, get_or, set, Some, None, Option, sym, refl, subst, inl, inr, arith}
 use Rattle.std.proofs.lemmas.List.{get_or-set_same, get_or-set_other}
 use Rattle.std.proofs.lemmas.Bool.{and_parts, and_from, leb-true, le-leb, ltb-true, lt-ltb, cases_eq}
-use Rattle.rules.specs.declared.limits.Limits.{Limits}
 use Rattle.rules.specs.Units.{min_price, max_price, max_ratio, max_fee, max_days}
 use Rattle.ledger.specs.declared.state.Contract.{Contract}
-use Rattle.ledger.specs.declared.state.Row.{Row}
 use Rattle.ledger.specs.declared.state.State.{State}
 use Rattle.ledger.specs.Places.{place_at, with_place, limits_of, is_resting, is_closed}
 use Rattle.ledger.specs.Rows.{blank, row_at}

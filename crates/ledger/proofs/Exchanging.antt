@@ -1,15 +1,14 @@
 -- A trade keeps a ledger sound.
-use Rattle.std.proofs.Common.{◌≡◌, ℕ, ◌+◌, ◌-◌, ◌*◌, ◌%◌, ◌<◌, ◌≤◌, Bool, true, false, not, ◌&&◌, ◌||◌, eqb, ltb, leb, ◌≢◌, ◌⊎◌, List, length, get_or, set, ℤ, pos, ◌+ℤ◌, ◌-ℤ◌, neg_ℤ, ◌≤ℤ◌, Some, None, Ok, Err, Option, Result, sym, refl, ap, ◌∙◌, subst, inl, inr, mul-add, arith}
+use Rattle.std.proofs.Common.{◌≡◌, ℕ, ◌+◌, ◌-◌, ◌*◌, ◌%◌, ◌<◌, ◌≤◌, Bool, true, false, eqb, ◌≢◌, List, length, get_or, ℤ, pos, ◌≤ℤ◌, Some, None, Ok, Err, Option, Result, sym, refl, ap, ◌∙◌, subst, inl, inr, mul-add, arith}
 use lib.Signed.{lt_z}
-use Rattle.std.proofs.lemmas.Nat.{mul-le, mod_below}
-use Rattle.std.proofs.lemmas.List.{length-set, get_or-set_same, get_or-set_other}
+use Rattle.std.proofs.lemmas.Nat.{mul-le}
+use Rattle.std.proofs.lemmas.List.{length-set, get_or-set_other}
 use Rattle.std.proofs.lemmas.Int.{ints}
-use Rattle.std.proofs.lemmas.Bool.{and_parts, or_parts, not-false, ltb-false, eqb-true, eq-eqb, cases_eq}
+use Rattle.std.proofs.lemmas.Bool.{or_parts, eqb-true, eq-eqb, cases_eq}
 use Rattle.refusal.specs.declared.Refusal.{Refusal}
 use Rattle.refusal.specs.Reasons.{first}
 use Rattle.refusal.proofs.Passed.{passed}
 use Rattle.rules.specs.Margin.{Fair}
-use Rattle.rules.specs.Units.{max_side}
 use Rattle.rules.proofs.LimitLaws.{limits_capped}
 use Rattle.rules.specs.MarginLaws.{fair_small}
 use Rattle.ledger.specs.declared.state.Account.{Account}
@@ -18,24 +17,22 @@ use Rattle.ledger.specs.declared.state.Contract.{Contract}
 use Rattle.ledger.specs.declared.state.Deal.{Deal}
 use Rattle.ledger.specs.declared.state.Effect.{Effect}
 use Rattle.ledger.specs.declared.state.Effect.TheVariants.{Opens, Closes}
-use Rattle.ledger.specs.declared.state.Part.{Part}
 use Rattle.ledger.specs.declared.state.Part.TheVariants.{Buyer, Seller}
 use Rattle.ledger.specs.declared.state.Row.{Row}
 use Rattle.ledger.specs.declared.state.Stage.{Stage}
 use Rattle.ledger.specs.declared.state.Stage.TheVariants.{Resting, Open, Closed}
 use Rattle.ledger.specs.declared.state.State.{State}
 use Rattle.ledger.specs.declared.state.Table.{Table}
-use Rattle.ledger.specs.Places.{account_at, place_at, no_account, is_open, is_resting, is_closed, limits_of, equity}
-use Rattle.ledger.specs.Rows.{Small, blank, row_at, set_row, row_after, lacking, overfilled, overtraded, day_total}
-use Rattle.ledger.specs.Sound.{Sound, Ceilings, PathOf, Bounded, Counted, settled_days, taken, turnover, standing, terms_hold, day_holds, delivery_holds, vacant_holds}
-use Rattle.ledger.specs.Sums.{sum_to}
-use Rattle.ledger.specs.Trade.{InRange, Tradable, Chargeable, frame_reasons, sides_reasons, buyer_row, seller_row, fee_of, poor, bargain, framed, sided, bargain_at, charged, charge_at, trade_row, traded_contract, traded_state}
+use Rattle.ledger.specs.Places.{account_at, place_at, no_account, is_open, is_resting, is_closed, limits_of}
+use Rattle.ledger.specs.Rows.{Small, blank, row_at, lacking, overfilled, overtraded}
+use Rattle.ledger.specs.Sound.{Sound, Ceilings, PathOf, Bounded, Counted, settled_days, taken, turnover, standing, terms_hold, day_holds, vacant_holds}
+use Rattle.ledger.specs.Trade.{Tradable, Chargeable, frame_reasons, sides_reasons, buyer_row, seller_row, fee_of, poor, bargain, framed, sided, bargain_at, charged, charge_at, trade_row, traded_contract, traded_state}
 use Rattle.ledger.proofs.Accounts.{each_account}
-use Rattle.ledger.proofs.Contracts.{Terms, terms_of, Day, day_of, day_from, FitsPlace, stands, at_set}
+use Rattle.ledger.proofs.Contracts.{terms_of, Day, day_of, day_from, stands, at_set}
 use Rattle.ledger.proofs.Opening.{apart}
-use Rattle.ledger.proofs.Sides.{Passes, row_here, row_there, longs, shorts, boughts, buyer_sums, seller_sums, elsewhere, turned, side_keeps, side_long}
+use Rattle.ledger.proofs.Sides.{Passes, row_there, longs, shorts, boughts, buyer_sums, seller_sums, elsewhere, turned, side_keeps, side_long}
 use Rattle.ledger.proofs.Tabulated.{sum_most}
-use Rattle.ledger.proofs.Trading.{Framed, frame_passed, place_low, terms_at}
+use Rattle.ledger.proofs.Trading.{frame_passed, terms_at}
 
 -- A bargain that was struck: both lists of reasons failed, and this is its contract and its margin.
 pub record Struck (opening : ℕ → ℕ → ℕ → ℕ) (s : State) (d : Deal) (room : Bool) (b : Bargain) : Type 0 where

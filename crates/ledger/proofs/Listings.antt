@@ -1,23 +1,22 @@
 -- Listing, ratio, quotes and delivery prices keep a ledger sound.
-use Rattle.std.proofs.Common.{◌≡◌, ℕ, zero, suc, ◌+◌, ◌-◌, ◌*◌, ◌%◌, ◌<◌, ◌≤◌, Bool, true, false, cond, not, ◌&&◌, ◌||◌, eqb, ltb, leb, List, length, get_or, set, is_some, Some, None, Option, sym, refl, ap, ◌∙◌, subst, arith}
-use Rattle.std.proofs.lemmas.Bool.{and_parts, and_from, or_parts, not-false, leb-true, leb-false, le-leb, ltb-false, lt-ltb, eq-eqb, eqb-true, cases_Bool}
+use Rattle.std.proofs.Common.{◌≡◌, ℕ, ◌+◌, ◌-◌, ◌*◌, ◌%◌, ◌<◌, ◌≤◌, Bool, true, false, cond, not, ◌&&◌, ◌||◌, eqb, ltb, leb, length, is_some, Some, None, Option, sym, refl, ap, ◌∙◌, subst, arith}
+use Rattle.std.proofs.lemmas.Bool.{and_parts, and_from, or_parts, not-false, leb-true, leb-false, le-leb, ltb-false, eq-eqb, eqb-true}
 use Rattle.refusal.proofs.Passed.{passed}
 use Rattle.rules.specs.declared.limits.Limits.{Limits}
 use Rattle.rules.specs.Units.{min_price, max_price, max_ratio, max_fee, max_days}
 use Rattle.ledger.specs.declared.state.Contract.{Contract}
 use Rattle.ledger.specs.declared.state.Listing.{Listing}
-use Rattle.ledger.specs.declared.state.Row.{Row}
 use Rattle.ledger.specs.declared.state.Stage.{Stage}
 use Rattle.ledger.specs.declared.state.Stage.TheVariants.{Resting, Open, Closed}
 use Rattle.ledger.specs.declared.state.State.{State}
-use Rattle.ledger.specs.Listing.{at_place, list_reasons, list_refusal, list_state, new_contract, bad_terms, bad_ratio, bad_number, reweigh_reasons, reweigh_refusal, reweigh_state, reweighed}
-use Rattle.ledger.specs.Places.{place_at, with_place, limits_of, is_resting, is_closed, known_place, outside}
-use Rattle.ledger.specs.Quotes.{quote_of, bad_quote, quote_reasons, quote_refusal, quote_state, quoted, deliver_reasons, deliver_refusal, deliver_state, delivered_at}
-use Rattle.ledger.specs.Rows.{blank, row_at}
-use Rattle.ledger.specs.Sound.{Sound, settled_days, standing, terms_hold, day_holds, delivery_holds, quote_holds, vacant_holds}
+use Rattle.ledger.specs.Listing.{at_place, list_reasons, list_refusal, list_state, new_contract, bad_ratio, reweigh_reasons, reweigh_refusal, reweigh_state, reweighed}
+use Rattle.ledger.specs.Places.{place_at, limits_of, is_resting, is_closed, known_place, outside}
+use Rattle.ledger.specs.Quotes.{bad_quote, quote_reasons, quote_refusal, quote_state, quoted, deliver_reasons, deliver_refusal, deliver_state, delivered_at}
+use Rattle.ledger.specs.Rows.{row_at}
+use Rattle.ledger.specs.Sound.{Sound, settled_days, terms_hold, quote_holds, vacant_holds}
 use Rattle.ledger.specs.Sums.{sum_to}
 use Rattle.ledger.proofs.Tabulated.{sum_none}
-use Rattle.ledger.proofs.Contracts.{Terms, terms_of, terms_from, Day, day_of, day_from, FitsPlace, place_keeps, stands}
+use Rattle.ledger.proofs.Contracts.{terms_of, terms_from, day_of, day_from, FitsPlace, place_keeps, stands}
 
 pub known : (p : ℕ) → not (known_place p) ≡ false → (1 ≤ p) × (p ≤ 12)
 known p h = let q = and_parts (leb 1 p) (leb p 12) (not-false (known_place p) h) in (leb-true 1 p q.0, leb-true p 12 q.1)

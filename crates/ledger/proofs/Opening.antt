@@ -1,24 +1,22 @@
 -- The start of a ledger is sound, and opening and closing a day keep it so.
-use Rattle.std.proofs.Common.{◌≡◌, ℕ, zero, suc, ◌+◌, ◌-◌, ◌*◌, ◌%◌, ◌<◌, ◌≤◌, Bool, true, false, not, ◌&&◌, ◌||◌, eqb, ltb, leb, List, [], ◌∷◌, length, get_or, replicate, ℤ, pos, ◌+ℤ◌, ◌-ℤ◌, neg_ℤ, ◌≤ℤ◌, Some, None, Option, sym, refl, ap, ◌∙◌, subst, arith}
+use Rattle.std.proofs.Common.{◌≡◌, ℕ, zero, suc, ◌+◌, ◌-◌, ◌*◌, ◌%◌, ◌<◌, Bool, true, false, eqb, ltb, List, [], ◌∷◌, get_or, replicate, Some, None, Option, sym, refl, ap, ◌∙◌, subst, arith}
 use Rattle.std.proofs.lemmas.Nat.{mod_below}
 use Rattle.std.proofs.lemmas.List.{get_or-replicate}
 use Rattle.std.proofs.lemmas.Int.{ints}
-use Rattle.std.proofs.lemmas.Bool.{and_parts, and_from, or_parts, not-false, leb-true, leb-false, le-leb, ltb-false, eq-eqb, eqb-true}
+use Rattle.std.proofs.lemmas.Bool.{and_parts, and_from, or_parts, not-false, leb-false, ltb-false, eq-eqb}
 use Rattle.refusal.proofs.Passed.{passed}
-use Rattle.rules.specs.Units.{min_rate, max_rate, min_price, max_price, max_days}
-use Rattle.ledger.specs.declared.state.Account.{Account}
+use Rattle.rules.specs.Units.{min_rate, max_rate, max_days}
 use Rattle.ledger.specs.declared.state.Contract.{Contract}
 use Rattle.ledger.specs.declared.state.Row.{Row}
 use Rattle.ledger.specs.declared.state.Stage.{Stage}
 use Rattle.ledger.specs.declared.state.Stage.TheVariants.{Resting, Open, Closed}
 use Rattle.ledger.specs.declared.state.State.{State}
-use Rattle.ledger.specs.declared.state.Table.{Table}
 use Rattle.ledger.specs.Days.{bad_rate, started, open_reasons, open_refusal, open_state, opened_account, opened_contract, opened_place, opened_table, all_priced, close_reasons, close_refusal, close_state}
-use Rattle.ledger.specs.Places.{account_at, place_at, no_account, is_resting, is_open, is_closed, limits_of}
+use Rattle.ledger.specs.Places.{account_at, place_at, no_account, is_resting, is_open}
 use Rattle.ledger.specs.Rows.{blank, row_at, opened_row, day_total}
 use Rattle.ledger.specs.Sound.{Sound, Ceilings, PathOf, Bounded, Counted, settled_days, taken, turnover, standing, terms_hold, day_holds, delivery_holds, vacant_holds}
-use Rattle.ledger.specs.Sums.{sum_to, tabulated}
-use Rattle.ledger.proofs.Contracts.{Day, day_from}
+use Rattle.ledger.specs.Sums.{sum_to}
+use Rattle.ledger.proofs.Contracts.{day_from}
 use Rattle.ledger.proofs.Listings.{resting_days}
 use Rattle.ledger.proofs.Tabulated.{tabulated_at, sum_none, sum_same}
 

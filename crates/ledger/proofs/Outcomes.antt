@@ -1,10 +1,9 @@
 -- Sums of outcomes.
-use Rattle.std.proofs.Common.{◌≡◌, ℕ, zero, suc, ◌+◌, ◌-◌, ◌*◌, ◌<◌, ◌≤◌, List, get_or, ℤ, pos, ◌+ℤ◌, Option, sym, refl, ap, ◌∙◌, add-one, arith}
+use Rattle.std.proofs.Common.{◌≡◌, ℕ, ◌+◌, ◌*◌, ◌<◌, ◌≤◌, List, get_or, ℤ, pos, Option, refl, ap, ◌∙◌, add-one, arith}
 use Rattle.ledger.specs.declared.state.Outcome.{Outcome}
 use Rattle.ledger.specs.declared.state.Account.{Account}
 use Rattle.ledger.specs.declared.state.Contract.{Contract}
 use Rattle.ledger.specs.declared.state.Settled.{Settled}
-use Rattle.ledger.specs.declared.state.Settlement.{Settlement}
 use Rattle.ledger.specs.declared.state.Stage.TheVariants.{Resting}
 use Rattle.ledger.specs.declared.state.State.{State}
 use Rattle.ledger.specs.declared.state.Table.{Table}

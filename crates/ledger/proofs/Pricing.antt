@@ -1,10 +1,10 @@
 -- The settlement price of every contract lies within 1 to 9,999.
-use Rattle.std.proofs.Common.{◌≡◌, ℕ, ◌+◌, ◌-◌, ◌*◌, ◌/◌, ◌<◌, ◌≤◌, Bool, true, false, cond, not, ◌&&◌, ◌||◌, eqb, ltb, leb, ◌⊎◌, List, get_or, is_some, IfSome, Some, None, Option, unwrap_or, sym, refl, ap, ◌∙◌, subst, inl, inr, ⊎_elim, arith}
+use Rattle.std.proofs.Common.{◌≡◌, ℕ, ◌+◌, ◌-◌, ◌<◌, ◌≤◌, true, false, not, ◌||◌, eqb, leb, is_some, IfSome, Some, None, Option, unwrap_or, sym, refl, ap, subst, ⊎_elim, arith}
 use Rattle.std.proofs.lemmas.Bool.{and_parts, leb-true, eqb-true, eqb-false, eq-eqb, ne_eqb, cond_both, cond-true, cond-false, cases_Bool}
 use Rattle.rules.specs.declared.figures.Figures.{Figures}
 use Rattle.rules.specs.declared.limits.Limits.{Limits}
 use Rattle.rules.specs.Figures.{Orderly}
-use Rattle.rules.specs.Limits.{Within, limits_about, limits_on, wide_day}
+use Rattle.rules.specs.Limits.{Within, limits_about, wide_day}
 use Rattle.rules.specs.Price.{Inside}
 use Rattle.rules.specs.Units.{min_price, max_price, wide_percent, narrow_percent}
 use Rattle.rules.proofs.LimitLaws.{within_own_limits, limits_capped}
@@ -14,8 +14,8 @@ use Rattle.ledger.specs.declared.state.Stage.TheVariants.{Resting, Open, Closed}
 use Rattle.ledger.specs.declared.state.State.{State}
 use Rattle.ledger.specs.Places.{place_at, figures_of, limits_of, is_closed, is_resting}
 use Rattle.ledger.specs.Settle.{delivered, price_of, price_at, prices_of, Priced}
-use Rattle.ledger.specs.Sound.{Sound, settled_days, standing, delivery_holds, quote_holds}
-use Rattle.ledger.proofs.Contracts.{Terms, terms_of, Day, day_of, FitsPlace, stands}
+use Rattle.ledger.specs.Sound.{Sound, settled_days, quote_holds}
+use Rattle.ledger.proofs.Contracts.{Terms, terms_of, Day, day_of, stands}
 use Rattle.ledger.proofs.Opening.{apart}
 use Rattle.ledger.proofs.Tabulated.{tabulated_at}
 

@@ -1,30 +1,24 @@
 -- A settling keeps a ledger sound.
-use Rattle.std.proofs.Common.{◌≡◌, ℕ, zero, suc, ◌+◌, ◌-◌, ◌*◌, ◌%◌, ◌<◌, ◌≤◌, Bool, true, false, cond, not, ◌&&◌, ◌||◌, eqb, ltb, leb, ◌⊎◌, List, length, get_or, ℤ, pos, ◌+ℤ◌, ◌-ℤ◌, neg_ℤ, ◌≤ℤ◌, Some, None, Option, sym, refl, ap, ◌∙◌, subst, inl, inr, ⊎_elim, arith}
-use Rattle.std.proofs.lemmas.Nat.{mul-le, mod_below}
+use Rattle.std.proofs.Common.{◌≡◌, ℕ, ◌+◌, ◌*◌, ◌%◌, ◌<◌, ◌≤◌, Bool, true, false, cond, not, ◌||◌, eqb, get_or, Some, None, Option, sym, refl, ap, ◌∙◌, subst, ⊎_elim, arith}
+use Rattle.std.proofs.lemmas.Nat.{mod_below}
 use Rattle.std.proofs.lemmas.Int.{ints}
-use Rattle.std.proofs.lemmas.Bool.{and_parts, and_from, eqb-true, eqb-false, eq-eqb, ne_eqb, cond_both, cond-true, cond-false, cases_Bool}
+use Rattle.std.proofs.lemmas.Bool.{eqb-false, ne_eqb, cond_both, cond-true, cond-false, cases_Bool}
 use Rattle.rules.specs.declared.figures.Figures.{Figures}
-use Rattle.rules.specs.Margin.{Fair}
 use Rattle.rules.specs.Price.{Inside}
-use Rattle.rules.specs.MarginLaws.{fair_small}
 use Rattle.ledger.specs.declared.state.Account.{Account}
 use Rattle.ledger.specs.declared.state.Contract.{Contract}
 use Rattle.ledger.specs.declared.state.Outcome.{Outcome}
 use Rattle.ledger.specs.declared.state.Row.{Row}
-use Rattle.ledger.specs.declared.state.Stage.{Stage}
-use Rattle.ledger.specs.declared.state.Stage.TheVariants.{Resting, Open, Closed}
 use Rattle.ledger.specs.declared.state.State.{State}
-use Rattle.ledger.specs.declared.state.Table.{Table}
-use Rattle.ledger.specs.Places.{account_at, place_at, no_account, is_closed, is_resting, equity}
-use Rattle.ledger.specs.Rows.{Small, blank, row_at, result_of, day_total}
-use Rattle.ledger.specs.Settle.{delivered, price_of, price_at, prices_of, row_outcome, outcome_at, outcome_to, added, nothing, settled_account, repriced, settled_place, settled_row, settled_table, settled_by, Near, Priced, Settleable}
-use Rattle.ledger.specs.Sound.{Sound, Ceilings, PathOf, Bounded, Counted, settled_days, taken, turnover, standing, terms_hold, day_holds, delivery_holds, vacant_holds}
-use Rattle.ledger.specs.Sums.{sum_to, tabulated}
-use Rattle.ledger.proofs.Contracts.{Terms, terms_of, terms_from, FitsPlace, stands}
-use Rattle.ledger.proofs.Exchanging.{turnover_small, days_small, taken_small}
+use Rattle.ledger.specs.Places.{account_at, place_at, no_account, is_closed}
+use Rattle.ledger.specs.Rows.{blank, row_at}
+use Rattle.ledger.specs.Settle.{delivered, price_at, prices_of, outcome_to, settled_account, repriced, settled_place, settled_row, settled_by, Near}
+use Rattle.ledger.specs.Sound.{Sound, Ceilings, PathOf, Bounded, Counted, settled_days, taken, standing, terms_hold, vacant_holds}
+use Rattle.ledger.specs.Sums.{sum_to}
+use Rattle.ledger.proofs.Contracts.{Terms, terms_of, terms_from, stands}
+use Rattle.ledger.proofs.Exchanging.{taken_small}
 use Rattle.ledger.proofs.Opening.{apart}
-use Rattle.ledger.proofs.Outcomes.{outcome_none, outcome_more, near_more, near_none}
-use Rattle.ledger.proofs.Pricing.{closed_stage, closed_days, price_sane, Sane}
+use Rattle.ledger.proofs.Pricing.{closed_days, price_sane, Sane}
 use Rattle.ledger.proofs.Tabulated.{tabulated_at, sum_none, sum_same, sum_most}
 
 -- A row or an empty one keeps what both have.

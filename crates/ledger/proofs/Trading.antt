@@ -1,28 +1,17 @@
 -- What a trade that is not refused has passed.
-use Rattle.std.proofs.Common.{◌≡◌, ℕ, ◌+◌, ◌-◌, ◌*◌, ◌^◌, ◌<◌, ◌≤◌, Bool, true, false, not, ◌&&◌, ◌||◌, eqb, ltb, leb, length, get_or, ℤ, pos, ◌+ℤ◌, neg_ℤ, ◌≤ℤ◌, Some, None, Ok, Err, Option, Result, sym, refl, ap, ◌∙◌, subst, arith}
-use Rattle.std.proofs.lemmas.Nat.{mul-le}
-use Rattle.std.proofs.lemmas.Int.{ints}
-use Rattle.std.proofs.lemmas.Bool.{and_parts, or_parts, not-false, leb-true, ltb-false, eqb-false, eqb-true}
-use Rattle.refusal.specs.declared.Refusal.{Refusal}
+use Rattle.std.proofs.Common.{◌≡◌, ℕ, ◌-◌, ◌<◌, ◌≤◌, true, false, ltb, leb, Some, None, subst, arith}
+use Rattle.std.proofs.lemmas.Bool.{and_parts, or_parts, not-false, leb-true, ltb-false, eqb-false}
 use Rattle.refusal.specs.Reasons.{first}
 use Rattle.refusal.proofs.Passed.{passed}
 use Rattle.rules.proofs.LimitLaws.{limits_capped}
 use Rattle.rules.specs.Units.{max_side}
-use Rattle.ledger.specs.declared.state.Bargain.{Bargain}
 use Rattle.ledger.specs.declared.state.Contract.{Contract}
 use Rattle.ledger.specs.declared.state.Deal.{Deal}
-use Rattle.ledger.specs.declared.state.Effect.{Effect}
-use Rattle.ledger.specs.declared.state.Part.{Part}
-use Rattle.ledger.specs.declared.state.Part.TheVariants.{Buyer, Seller}
-use Rattle.ledger.specs.declared.state.Row.{Row}
 use Rattle.ledger.specs.declared.state.State.{State}
-use Rattle.ledger.specs.Places.{account_at, place_at, known_account, known_place, limits_of, is_open, is_resting}
-use Rattle.ledger.specs.Rows.{Small, blank, row_at, lacking, overfilled, overtraded, day_total}
-use Rattle.ledger.specs.Sound.{Sound, Ceilings, PathOf, settled_days, taken, turnover}
-use Rattle.ledger.specs.Sums.{sum_to}
-use Rattle.ledger.specs.Trade.{InRange, Tradable, Chargeable, frame_reasons, sides_reasons, off_limits, buyer_row, seller_row, fee_of, poor, bargain, framed, sided, bargain_at}
-use Rattle.ledger.proofs.Contracts.{Terms, terms_of, Day, day_of, FitsPlace, stands}
-use Rattle.ledger.proofs.Tabulated.{sum_most}
+use Rattle.ledger.specs.Places.{place_at, known_account, known_place, limits_of, is_open}
+use Rattle.ledger.specs.Sound.{Sound, settled_days}
+use Rattle.ledger.specs.Trade.{InRange, frame_reasons, off_limits}
+use Rattle.ledger.proofs.Contracts.{Terms, terms_of, stands}
 
 -- The frame of a deal: its numbers, its two traders, and a price within the limits of its contract.
 pub record Framed (s : State) (d : Deal) (c : Contract) : Type 0 where

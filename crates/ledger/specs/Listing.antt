@@ -1,5 +1,5 @@
 -- Listing a contract, and a new ratio for one (docs/RULES.md, "Listing", "Ratio").
-use Rattle.std.specs.Prelude.{ℕ, ◌+◌, ◌-◌, Bool, not, ◌||◌, List, [], ◌∷◌, is_some, Some, None, Option, nat_le, nat_lt, slice_set}
+use Rattle.std.specs.Prelude.{ℕ, ◌-◌, Bool, not, ◌||◌, List, [], ◌∷◌, is_some, Some, None, Option, nat_le, nat_lt, slice_set}
 use Rattle.refusal.specs.declared.Refusal.{Refusal}
 use Rattle.refusal.specs.declared.Refusal.TheVariants.{WrongPhase, OutOfRange, PlaceState, ContractNumber, ContractTerms}
 use Rattle.refusal.specs.Reasons.{first}

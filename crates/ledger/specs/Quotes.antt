@@ -1,11 +1,10 @@
 -- Quotes, delivery prices and the end of a day (docs/RULES.md, "Quote", "Delivery price", "End").
-use Rattle.std.specs.Prelude.{ℕ, ◌-◌, Bool, true, false, cond, not, ◌&&◌, ◌||◌, List, [], ◌∷◌, is_some, Some, None, Option, ◌==◌, nat_lt}
+use Rattle.std.specs.Prelude.{ℕ, ◌-◌, Bool, false, cond, not, ◌&&◌, ◌||◌, List, [], ◌∷◌, is_some, Some, None, Option, ◌==◌, nat_lt}
 use Rattle.refusal.specs.declared.Refusal.{Refusal}
-use Rattle.refusal.specs.declared.Refusal.TheVariants.{WrongPhase, OutOfRange, RateRange, PlaceState, DeliveryPrice, PriceLimits}
+use Rattle.refusal.specs.declared.Refusal.TheVariants.{WrongPhase, OutOfRange, PlaceState, DeliveryPrice, PriceLimits}
 use Rattle.refusal.specs.Reasons.{first}
-use Rattle.rules.specs.Units.{min_price, max_price, min_rate, max_rate}
+use Rattle.rules.specs.Units.{min_price, max_price}
 use Rattle.ledger.specs.declared.state.Contract.{Contract}
-use Rattle.ledger.specs.declared.state.Stage.TheVariants.{Closed}
 use Rattle.ledger.specs.declared.state.State.{State}
 use Rattle.ledger.specs.Listing.{at_place}
 use Rattle.ledger.specs.Places.{place_at, is_open, known_place, limits_of, outside}

@@ -1,12 +1,11 @@
 -- What holds of every ledger, so that no amount ever leaves its range and every contract balances. Each part is a
 -- product of plain facts, since it stands as an invariant in the type of a ledger.
-use Rattle.std.specs.Prelude.{◌≡◌, ℕ, ◌+◌, ◌-◌, ◌*◌, ◌%◌, ◌<◌, ◌≤◌, Bool, true, false, not, ◌&&◌, ◌||◌, ℤ, pos, ◌+ℤ◌, neg_ℤ, ◌≤ℤ◌, is_some, Some, None, Option, ◌==◌, nat_eq, nat_le, nat_lt, slice_index_or}
+use Rattle.std.specs.Prelude.{◌≡◌, ℕ, ◌+◌, ◌-◌, ◌*◌, ◌%◌, ◌<◌, ◌≤◌, Bool, true, false, not, ◌&&◌, ◌||◌, pos, ◌+ℤ◌, neg_ℤ, ◌≤ℤ◌, is_some, Some, None, Option, ◌==◌, nat_eq, nat_le, nat_lt, slice_index_or}
 use Rattle.rules.specs.declared.limits.Limits.{Limits}
 use Rattle.rules.specs.Units.{max_side, max_day, max_days, min_rate, max_rate, min_price, max_price, max_ratio, max_fee, max_paid_in, day_pay_outs}
 use Rattle.ledger.specs.declared.state.Account.{Account}
 use Rattle.ledger.specs.declared.state.Contract.{Contract}
 use Rattle.ledger.specs.declared.state.Row.{Row}
-use Rattle.ledger.specs.declared.state.Stage.{Stage}
 use Rattle.ledger.specs.declared.state.Stage.TheVariants.{Resting, Open, Closed}
 use Rattle.ledger.specs.declared.state.State.{State}
 use Rattle.ledger.specs.declared.state.Table.{Table}

@@ -1,6 +1,6 @@
 -- The two days of docs/RULES.md, "Worked example", worked by the definitions alone, under the freight price rule and the
 -- both-sides margin rule.
-use Rattle.std.specs.Prelude.{◌≡◌, ℕ, true, pos, negsuc, Some, None, Ok, slice_index_or}
+use Rattle.std.specs.Prelude.{◌≡◌, true, pos, Some, None, Ok, slice_index_or}
 use Rattle.refusal.specs.declared.Refusal.TheVariants.{NotAvailable}
 use Rattle.rules.specs.Margin.{rated, both_sides}
 use Rattle.rules.specs.Price.{freight_price}
@@ -11,10 +11,9 @@ use Rattle.ledger.specs.declared.state.State.{State}
 use Rattle.ledger.specs.Cash.{credit_refusal, credit_state, debit_refusal}
 use Rattle.ledger.specs.Days.{started, open_refusal, open_state, close_refusal, close_state}
 use Rattle.ledger.specs.Listing.{list_refusal, list_state}
-use Rattle.ledger.specs.Places.{account_at}
 use Rattle.ledger.specs.Questions.{funds_at}
 use Rattle.ledger.specs.Quotes.{deliver_refusal, deliver_state}
-use Rattle.ledger.specs.Settle.{prices_of, settled_by, outcome_to, change_of}
+use Rattle.ledger.specs.Settle.{prices_of, settled_by}
 use Rattle.ledger.specs.Trade.{bargain, exchange_state}
 
 abbrev contract_101 : Listing

@@ -1,5 +1,7 @@
 // The money and positions of one book: accounts, places and rows, with no permits and no archive (docs/RULES.md,
 // "Trades", "Cash", "Settling"). Every transition is exact, refuses with a numbered refusal, and keeps the invariant.
+#![tactic(auto)]
+
 mod cash;
 mod days;
 pub mod ledger;

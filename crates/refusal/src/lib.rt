@@ -1,5 +1,7 @@
 // Every numbered refusal of the product, with its number and its layer (docs/RULES.md, "Refusals").
 // A later refusal is one more case with the next number; no case is ever renumbered.
+#![tactic(auto)]
+
 ghost use Rattle.std.specs.Prelude.{◌≡◌};
 ghost use Rattle.refusal.specs.Numbered.{number_of, layer_of};
 

@@ -1,5 +1,5 @@
 -- The rules mean what they say.
-use Rattle.std.proofs.Common.{◌≡◌, ℕ, ◌+◌, ◌*◌, ◌/◌, ◌%◌, ◌<◌, ◌≤◌, min, max, true, cond, sym, ap, ◌∙◌, subst, mod-lt, mul_assoc, mul_comm, div-add-mod', arith}
+use Rattle.std.proofs.Common.{◌≡◌, ℕ, ◌+◌, ◌*◌, ◌%◌, ◌<◌, true, sym, ap, ◌∙◌, subst, mod-lt, mul_assoc, mul_comm, div-add-mod', arith}
 use Rattle.std.proofs.lemmas.Bool.{cond-true}
 use Rattle.rules.specs.Margin.{ratable, rated}
 use Rattle.rules.specs.Price.{averaged, middle}

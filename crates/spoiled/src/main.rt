@@ -1,5 +1,7 @@
 // spoiled: reads a file of instruction lines from standard input and prints for each line its number, and the instruction
 // that it says or the refusal's number and column (docs/RULES.md, "Instruction lines").
+#![tactic(auto)]
+
 use lines::file::first_line;
 use lines::instruction::{Instruction, Side};
 use lines::line::read;

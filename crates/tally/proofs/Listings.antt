@@ -14,7 +14,7 @@ use Rattle.tally.specs.Deeds.{Deed.lists}
 use Rattle.tally.specs.Tally.{History, Listed, Trade, standing, number_of, day_number, previous_price, trade_rate, day_quantity, day_value, bid, ask, delivery_price, settled_trades, unsettled_trades, all_trades, last_mark, teu, opens_long, closes_long, opens_short, closes_short}
 use Rattle.tally.proofs.Cash.{among}
 use Rattle.tally.proofs.Lists.{Each, each_map, each_append, Among, read_set}
-use Rattle.tally.proofs.Matches.{Matches, RowIs, Past, Fresh, place_of, row_of, told, told_from, ratio_told, number_at, net, buys, sells, amount, worth}
+use Rattle.tally.proofs.Matches.{Matches, RowIs, Past, Fresh, place_of, row_of, told_from, ratio_told, number_at, net, buys, sells, amount, worth}
 use Rattle.tally.proofs.Nets.{teu_none, net_none}
 
 -- Nothing is told where nothing stands.

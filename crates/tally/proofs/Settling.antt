@@ -13,7 +13,7 @@ use Rattle.ledger.specs.declared.state.State.{State}
 use Rattle.ledger.specs.Days.{opened_place}
 use Rattle.ledger.specs.Places.{account_at, place_at, no_account, equity, is_resting, is_closed}
 use Rattle.ledger.specs.Rows.{blank, row_at, opened_row}
-use Rattle.ledger.specs.Settle.{price_at, prices_of, nothing, row_outcome, outcome_at, outcome_to, settled_account, change_of, settled_place, settled_row, settled_by}
+use Rattle.ledger.specs.Settle.{price_at, prices_of, row_outcome, outcome_at, outcome_to, settled_account, change_of, settled_place, settled_row, settled_by}
 use Rattle.ledger.specs.Sums.{sum_to}
 use Rattle.ledger.proofs.Tabulated.{tabulated_at, tabulated_length}
 use Rattle.tally.specs.Deeds.{PriceRule, MarginRule, Deed.settles}

@@ -1,4 +1,6 @@
 // What the money of a ledger is, told from the history of accepted transitions alone (docs/PROMISES.md, "The tally").
+#![tactic(auto)]
+
 ghost use Rattle.std.specs.Prelude.{◌≡◌};
 ghost use Rattle.tally.specs.Agreement.{LedgersAgree, Tallied, equity_at};
 ghost use Rattle.tally.specs.Worked.{WorkedTally};

@@ -1,7 +1,5 @@
-use Rattle.std.proofs.Common.{◌%◌, List, get_or, pos, ap, arith}
-use Rattle.ledger.specs.declared.state.Row.{Row}
-use Rattle.ledger.specs.declared.state.Table.{Table}
-use Rattle.ledger.specs.Settle.{outcome_to, nothing, settled_account, change_of, settled_place, settled_row, settled_contract, Near}
+use Rattle.std.proofs.Common.{get_or, pos, arith}
+use Rattle.ledger.specs.Settle.{nothing, change_of}
 use Rattle.ledger.proofs.Tabulated.{tabulated_all}
 use Rattle.ledger.proofs.settling.changes.Goals as goal
 

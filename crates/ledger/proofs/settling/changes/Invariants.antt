@@ -1,5 +1,5 @@
-use Rattle.std.proofs.Common.{◌≡◌, ℕ, ◌%◌, ◌<◌, length, get_or, pos}
-use Rattle.ledger.specs.Settle.{outcome_to, nothing, settled_account, change_of, settled_place, settled_row, settled_contract, Near}
+use Rattle.std.proofs.Common.{◌≡◌, ℕ, ◌<◌, length, get_or, pos}
+use Rattle.ledger.specs.Settle.{nothing, change_of}
 use Rattle.ledger.proofs.settling.changes.Given as goal
 
 -- What is filled so far.

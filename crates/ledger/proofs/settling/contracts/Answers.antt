@@ -1,8 +1,6 @@
-use Rattle.std.proofs.Common.{◌%◌, List, get_or, None, ap, arith}
-use Rattle.ledger.specs.declared.state.Row.{Row}
-use Rattle.ledger.specs.declared.state.Table.{Table}
-use Rattle.ledger.specs.Places.{account_at, place_at, no_account}
-use Rattle.ledger.specs.Settle.{outcome_to, nothing, settled_account, change_of, settled_place, settled_row, settled_contract, Near}
+use Rattle.std.proofs.Common.{get_or, None, arith}
+use Rattle.ledger.specs.Places.{place_at}
+use Rattle.ledger.specs.Settle.{settled_contract}
 use Rattle.ledger.proofs.Tabulated.{tabulated_all}
 use Rattle.ledger.proofs.settling.contracts.Goals as goal
 

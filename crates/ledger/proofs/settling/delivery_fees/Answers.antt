@@ -1,6 +1,5 @@
-use Rattle.std.proofs.Common.{◌≡◌, ℕ, ◌+◌, ◌≤◌, get_or, sym, ap, ◌∙◌, arith}
+use Rattle.std.proofs.Common.{ℕ, ◌+◌, get_or, sym, ap, ◌∙◌, arith}
 use Rattle.ledger.specs.Settle.{nothing}
-use Rattle.ledger.specs.Sums.{sum_to}
 use Rattle.ledger.proofs.Tabulated.{sum_none, sum_more}
 use Rattle.ledger.proofs.settling.delivery_fees.Goals as goal
 

@@ -1,4 +1,4 @@
-use Rattle.std.proofs.Common.{sym, ap, ◌∙◌, rules}
+use Rattle.std.proofs.Common.{sym, ap, ◌∙◌}
 use Rattle.ledger.specs.declared.state.Outcome.{Outcome}
 use Rattle.ledger.specs.Settle.{outcome_at, added}
 use Rattle.ledger.proofs.Outcomes.{outcome_none, outcome_more, near_none}

@@ -1,4 +1,4 @@
-use Rattle.std.proofs.Common.{◌≡◌, ◌≤◌}
+use Rattle.std.proofs.Common.{◌≡◌}
 use Rattle.ledger.specs.Settle.{outcome_to, Near}
 use Rattle.ledger.proofs.settling.outcome.Given as goal
 

@@ -1,9 +1,7 @@
-use Rattle.std.proofs.Common.{◌≡◌, ◌%◌, List, get_or, ap, ◌∙◌, arith}
+use Rattle.std.proofs.Common.{◌≡◌, ◌∙◌, arith}
 use Rattle.ledger.specs.declared.state.Outcome.{Outcome}
 use Rattle.std.proofs.lemmas.List.{length-set}
-use Rattle.ledger.specs.declared.state.Row.{Row}
-use Rattle.ledger.specs.declared.state.Table.{Table}
-use Rattle.ledger.specs.Settle.{outcome_to, nothing, settled_account, change_of, settled_place, settled_row, settled_contract, Near}
+use Rattle.ledger.specs.Settle.{outcome_to, nothing, Near}
 use Rattle.ledger.proofs.Tabulated.{tabulated_all, filled_more}
 use Rattle.ledger.proofs.settling.outcomes.Goals as goal
 

@@ -1,5 +1,5 @@
-use Rattle.std.proofs.Common.{◌≡◌, ℕ, ◌%◌, ◌<◌, length, get_or}
-use Rattle.ledger.specs.Settle.{outcome_to, nothing, settled_account, change_of, settled_place, settled_row, settled_contract, Near}
+use Rattle.std.proofs.Common.{◌≡◌, ℕ, ◌<◌, length, get_or}
+use Rattle.ledger.specs.Settle.{outcome_to, nothing, Near}
 use Rattle.ledger.proofs.settling.outcomes.Given as goal
 
 -- What is filled so far.

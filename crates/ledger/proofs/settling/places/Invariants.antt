@@ -1,6 +1,6 @@
-use Rattle.std.proofs.Common.{◌≡◌, ℕ, ◌%◌, ◌<◌, length, get_or, None}
-use Rattle.ledger.specs.Places.{account_at, place_at, no_account}
-use Rattle.ledger.specs.Settle.{outcome_to, nothing, settled_account, change_of, settled_place, settled_row, settled_contract, Near}
+use Rattle.std.proofs.Common.{◌≡◌, ℕ, ◌<◌, length, get_or, None}
+use Rattle.ledger.specs.Places.{place_at}
+use Rattle.ledger.specs.Settle.{settled_place}
 use Rattle.ledger.proofs.settling.places.Given as goal
 
 -- What is filled so far.

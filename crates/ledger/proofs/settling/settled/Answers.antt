@@ -1,7 +1,5 @@
-use Rattle.std.proofs.Common.{◌≡◌, ℕ, ◌+◌, List, get_or, pos, sym, refl, ap, ◌∙◌, subst, arith, rules}
-use Rattle.ledger.specs.declared.state.Outcome.{Outcome}
-use Rattle.ledger.specs.Places.{account_at, no_account}
-use Rattle.ledger.specs.Settle.{Priced, nothing, outcome_to, settled_account, change_of, Near}
+use Rattle.std.proofs.Common.{sym, subst, arith}
+use Rattle.ledger.specs.Settle.{Priced, Near}
 use Rattle.ledger.proofs.Exchanging.{days_small, taken_small}
 use Rattle.ledger.proofs.Outcomes.{assembled, assembled_said, each}
 use Rattle.ledger.proofs.Pricing.{prices_small}

@@ -1,6 +1,6 @@
-use Rattle.std.proofs.Common.{◌≡◌, ℕ, ◌%◌, ◌<◌, length, get_or, None}
-use Rattle.ledger.specs.Places.{account_at, place_at, no_account}
-use Rattle.ledger.specs.Settle.{outcome_to, nothing, settled_account, change_of, settled_place, settled_row, settled_contract, Near}
+use Rattle.std.proofs.Common.{◌≡◌, ℕ, ◌%◌, ◌<◌, length, get_or}
+use Rattle.ledger.specs.Places.{place_at}
+use Rattle.ledger.specs.Settle.{settled_row}
 use Rattle.ledger.specs.Rows.{blank}
 use Rattle.ledger.proofs.settling.table.Given as goal
 

@@ -1,6 +1,4 @@
-use Rattle.std.proofs.Common.{get_or, sym, ap, ◌∙◌, subst, arith, rules}
-use Rattle.ledger.specs.declared.state.Outcome.{Outcome}
-use Rattle.ledger.specs.declared.state.Row.{Row}
+use Rattle.std.proofs.Common.{get_or, sym, ap, ◌∙◌, subst, arith}
 use Rattle.ledger.specs.Places.{place_at}
 use Rattle.ledger.specs.Rows.{Small}
 use Rattle.ledger.specs.Settle.{row_outcome, added, Near}

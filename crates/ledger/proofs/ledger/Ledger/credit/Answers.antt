@@ -1,5 +1,4 @@
 use Rattle.std.proofs.Common.{◌≡◌, length, sym, ◌∙◌, subst, rules}
-use Rattle.ledger.specs.declared.state.State.{State}
 use Rattle.ledger.specs.Sound.{Sound}
 use Rattle.ledger.proofs.Banking.{credit_keeps}
 use Rattle.ledger.proofs.Types.{invariant}

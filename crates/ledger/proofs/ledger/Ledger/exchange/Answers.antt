@@ -1,6 +1,6 @@
 use Rattle.std.proofs.Common.{◌≡◌, length, sym, subst, rules}
 use Rattle.ledger.specs.Sound.{Sound}
-use Rattle.ledger.proofs.Exchanging.{Struck, struck, tradable, exchange_keeps}
+use Rattle.ledger.proofs.Exchanging.{struck, tradable, exchange_keeps}
 use Rattle.ledger.proofs.Types.{invariant}
 use Rattle.ledger.proofs.ledger.Ledger.exchange.Goals as goal
 

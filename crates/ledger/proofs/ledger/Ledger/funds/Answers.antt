@@ -1,4 +1,4 @@
-use Rattle.std.proofs.Common.{◌-◌, ◌<◌, arith, rules}
+use Rattle.std.proofs.Common.{◌-◌, ◌<◌, rules}
 use Rattle.ledger.specs.Sound.{Sound}
 use Rattle.ledger.proofs.Outcomes.{roomy}
 use Rattle.ledger.proofs.ledger.Ledger.funds.Goals as goal
