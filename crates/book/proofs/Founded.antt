@@ -1,10 +1,9 @@
 -- What a founding that passed its gate may rely on, and the book that it leaves.
-use Rattle.std.proofs.Common.{◌≡◌, ℕ, ◌+◌, ◌*◌, ◌/◌, ◌≤◌, Bool, true, false, None, sym, ap, ◌∙◌, subst, arith}
+use Rattle.std.proofs.Common.{◌≡◌, ℕ, ◌/◌, ◌≤◌, true, None, sym, ◌∙◌, subst, arith}
 use Rattle.std.proofs.lemmas.Bool.{false≢true}
 use Rattle.std.proofs.lemmas.Bool.Decides.{nat_tests}
 use Rattle.archive.specs.Written.{begin_refusal}
 use Rattle.ledger.specs.declared.state.State.{State}
-use Rattle.ledger.specs.Days.{started}
 use Rattle.ledger.specs.Places.{is_resting}
 use Rattle.book.specs.declared.desk.Desk.{Desk}
 use Rattle.book.specs.Founding.{found_gate, new_desk}

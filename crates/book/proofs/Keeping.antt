@@ -14,20 +14,18 @@ use Rattle.ledger.specs.declared.state.State.{State}
 use Rattle.ledger.specs.Cash.{credit_state, debit_state}
 use Rattle.ledger.specs.Days.{open_state, close_state}
 use Rattle.ledger.specs.Listing.{at_place}
-use Rattle.ledger.specs.Places.{is_resting, is_open, is_closed, place_at}
+use Rattle.ledger.specs.Places.{is_open, is_closed, place_at}
 use Rattle.ledger.specs.Quotes.{quote_state, deliver_state, quoted, delivered_at}
 use Rattle.ledger.specs.Trade.{exchange_state}
 use Rattle.book.specs.declared.desk.Desk.{Desk}
 use Rattle.book.specs.declared.desk.Phase.TheVariants.{Idle}
 use Rattle.book.specs.declared.entries.Movement.{Movement}
-use Rattle.book.specs.declared.permit.ClosingPermit.{ClosingPermit}
 use Rattle.book.specs.declared.permit.DayPermit.{DayPermit}
 use Rattle.book.specs.Cash.{pay_in_refusal, pay_in_moves, pay_out_refusal, pay_out_moves}
 use Rattle.book.specs.Closing.{closing_for}
-use Rattle.book.specs.Desk.{phase_in, phase_of, is_day, is_closing, is_resting_phase}
+use Rattle.book.specs.Desk.{phase_in, phase_of, is_day, is_closing}
 use Rattle.book.specs.Entries.{desk_with}
 use Rattle.book.specs.Gates.{day_gate, day_reasons, closing_gate, handed_back, spent_for}
-use Rattle.book.specs.Held.{RestIn}
 use Rattle.book.specs.Trading.{trade_bargain, trade_moves}
 use Rattle.book.proofs.Staged.{credit_stage, debit_stage, deliver_stage}
 use Rattle.book.proofs.Striking.{exchange_stage}

@@ -3,7 +3,6 @@ use Rattle.std.specs.Prelude.{ℕ, List, [], Some, None, Option}
 use Rattle.refusal.specs.declared.Refusal.{Refusal}
 use Rattle.rules.specs.declared.figures.Figures.{Figures}
 use Rattle.ledger.specs.declared.state.Settled.{Settled}
-use Rattle.ledger.specs.declared.state.Settlement.{Settlement}
 use Rattle.ledger.specs.declared.state.State.{State}
 use Rattle.ledger.specs.Days.{close_refusal}
 use Rattle.ledger.specs.Settle.{prices_of, settled_by, settlement}
@@ -11,7 +10,7 @@ use Rattle.book.specs.declared.desk.Desk.{Desk}
 use Rattle.book.specs.declared.entries.Movement.{Movement}
 use Rattle.book.specs.declared.permit.ClosingPermit.{ClosingPermit}
 use Rattle.book.specs.declared.permit.DayPermit.{DayPermit}
-use Rattle.book.specs.Entries.{desk_with, bytes_with, settlement_moves}
+use Rattle.book.specs.Entries.{settlement_moves}
 use Rattle.book.specs.Gates.{or_else, day_gate, settle_gate}
 
 abbrev pub end_refusal : Desk → State → DayPermit → ℕ → Option Refusal

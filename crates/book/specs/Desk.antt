@@ -1,5 +1,5 @@
 -- Phases, permits and room: what every call asks first (docs/RULES.md, "Phases and permits", "How a call is judged").
-use Rattle.std.specs.Prelude.{ℕ, ◌+◌, ◌-◌, ◌*◌, Bool, true, false, cond, not, ◌||◌, List, [], ◌∷◌, ◌==◌, nat_le}
+use Rattle.std.specs.Prelude.{ℕ, ◌+◌, ◌-◌, ◌*◌, Bool, true, false, cond, not, ◌||◌, ◌==◌, nat_le}
 use Rattle.archive.specs.Layout.{allowed}
 use Rattle.ledger.specs.declared.state.Stage.{Stage}
 use Rattle.ledger.specs.declared.state.Stage.TheVariants.{Resting, Open, Closed}

@@ -1,11 +1,10 @@
 -- What the calls write into the archive, and what the desk then knows of it (docs/ARCHIVE.md, "Writing").
-use Rattle.std.specs.Prelude.{ℕ, ◌+◌, ◌-◌, List, [], ◌∷◌, map, ℤ, pos, neg_ℤ, Some, None, Option, slice_index, slice_index_or, slice_set}
+use Rattle.std.specs.Prelude.{ℕ, ◌+◌, ◌-◌, List, [], ◌∷◌, map, ℤ, pos, neg_ℤ, None, slice_index, slice_index_or, slice_set}
 use Rattle.std.specs.List.{range_with_len}
 use Rattle.archive.specs.declared.entry.Entry.{Entry}
 use Rattle.archive.specs.declared.entry.Kind.{Kind}
 use Rattle.archive.specs.declared.entry.Kind.TheVariants.{TradeFee, Settlement}
 use Rattle.archive.specs.Written.{appended}
-use Rattle.refusal.specs.declared.Refusal.{Refusal}
 use Rattle.ledger.specs.declared.state.Account.{Account}
 use Rattle.ledger.specs.declared.state.Deal.{Deal}
 use Rattle.ledger.specs.declared.state.State.{State}

@@ -1,5 +1,5 @@
 -- What holds of every book, so that an entry always finds its slot.
-use Rattle.std.specs.Prelude.{◌≡◌, ℕ, ◌+◌, ◌≤◌, true, false}
+use Rattle.std.specs.Prelude.{◌≡◌, ◌+◌, ◌≤◌, true, false}
 use Rattle.ledger.specs.declared.state.State.{State}
 use Rattle.ledger.specs.Places.{is_resting}
 use Rattle.book.specs.declared.desk.Desk.{Desk}

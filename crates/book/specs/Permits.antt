@@ -1,5 +1,5 @@
 -- Laying a permit down in its book, and taking it up again (docs/RULES.md, "Lay-down", "Take-up").
-use Rattle.std.specs.Prelude.{ℕ, Bool, true, false, not, ◌||◌, [], ◌∷◌, Some, None, Option}
+use Rattle.std.specs.Prelude.{Bool, not, ◌||◌, [], ◌∷◌, Some, None, Option}
 use Rattle.refusal.specs.declared.Refusal.{Refusal}
 use Rattle.refusal.specs.declared.Refusal.TheVariants.{WrongPhase}
 use Rattle.refusal.specs.Reasons.{first}

@@ -1,5 +1,5 @@
 -- The law, from what stands along every way.
-use Rattle.std.proofs.Common.{◌≡◌, ℕ, zero, suc, ◌-◌, ◌*◌, ◌<◌, ◌≤◌, Bool, true, false, cond, ◌&&◌, leb, List, [], ◌∷◌, length, ℤ, pos, ◌+ℤ◌, ◌-ℤ◌, Some, None, Ok, Err, Option, Result, sym, refl, ap, ◌∙◌, subst, ap₂, inl, inr, arith}
+use Rattle.std.proofs.Common.{◌≡◌, ℕ, zero, suc, ◌-◌, Bool, true, false, cond, leb, List, [], ◌∷◌, length, Some, None, Ok, Err, Option, Result, sym, refl, ap, ◌∙◌, subst, inl, inr, arith}
 use Rattle.std.proofs.lemmas.Bool.{and_parts, leb-true, cond-true}
 use Rattle.refusal.specs.declared.Refusal.{Refusal}
 use Rattle.refusal.specs.declared.Refusal.TheVariants.{OutOfRange}
@@ -8,26 +8,25 @@ use Rattle.archive.specs.declared.entry.Link.{Link}
 use Rattle.archive.specs.Chain.{chain_of, reading, kth, picked}
 use Rattle.ledger.specs.declared.state.State.{State}
 use Rattle.ledger.specs.declared.state.Funds.{Funds}
-use Rattle.ledger.specs.Places.{account_at, equity, known_account, known_place}
+use Rattle.ledger.specs.Places.{account_at, equity, known_account}
 use Rattle.ledger.specs.Questions.{funds_of, funds_at}
 use Rattle.ledger.specs.Sound.{Sound, standing, day_holds}
-use Rattle.ledger.specs.Sums.{total_to}
 use Rattle.ledger.proofs.Contracts.{day_of}
 use Rattle.ledger.proofs.Opening.{start_sound}
 use Rattle.tally.specs.Agreement.{Agrees, changes}
 use Rattle.tally.specs.Deeds.{Try, ledger, history}
-use Rattle.tally.specs.Tally.{History, tally_equity, all_cash_in, all_cash_out}
+use Rattle.tally.specs.Tally.{History, tally_equity}
 use Rattle.tally.proofs.Run.{agree}
 use Rattle.book.specs.declared.desk.Desk.{Desk}
 use Rattle.book.specs.declared.entries.Movement.{Movement}
 use Rattle.book.specs.declared.permit.ClosingPermit.{ClosingPermit}
 use Rattle.book.specs.Closing.{settle_refusal}
 use Rattle.law.specs.Entries.{said_along, chain_said}
-use Rattle.law.specs.Law.{chain_read, entry_read, entry_said, kth_of, change_along, equity_in, Balanced, BooksBalance, Told}
-use Rattle.law.specs.Ways.{Held, Call, idle, way, deeds, founding_rate, entries, in_hand}
+use Rattle.law.specs.Law.{chain_read, entry_said, kth_of, equity_in, BooksBalance, Told}
+use Rattle.law.specs.Ways.{Held, way, deeds, founding_rate, entries, in_hand}
 use Rattle.law.proofs.Gates.{none_some, out_settles}
 use Rattle.law.proofs.Refusing.{refusal_changes_nothing}
-use Rattle.law.proofs.Run.{Idle, Runs, Stands, along}
+use Rattle.law.proofs.Run.{Stands, along}
 use Rattle.law.proofs.Soundness.{sound_along}
 use Rattle.law.proofs.Sums.{summed, sums_along}
 

@@ -1,29 +1,27 @@
 -- An accepted trade: two entries, the buyer's and then the seller's.
-use Rattle.std.proofs.Common.{◌≡◌, ℕ, ◌+◌, ◌-◌, ◌*◌, ◌<◌, ◌≤◌, Bool, true, false, eqb, List, [], ◌∷◌, length, ℤ, pos, ◌+ℤ◌, ◌-ℤ◌, neg_ℤ, Some, None, Ok, Err, Option, Result, sym, refl, ap, ◌∙◌, subst, arith}
+use Rattle.std.proofs.Common.{◌≡◌, ℕ, ◌+◌, Bool, true, false, eqb, List, ◌∷◌, length, pos, ◌+ℤ◌, ◌-ℤ◌, neg_ℤ, Some, None, Ok, Option, Result, sym, refl, ap, ◌∙◌, subst, arith}
 use Rattle.refusal.specs.declared.Refusal.{Refusal}
 use Rattle.archive.specs.declared.entry.Kind.TheVariants.{TradeFee}
 use Rattle.ledger.specs.declared.state.Bargain.{Bargain}
 use Rattle.ledger.specs.declared.state.Deal.{Deal}
-use Rattle.ledger.specs.declared.state.State.{State}
 use Rattle.ledger.specs.Sound.{Sound}
 use Rattle.ledger.specs.Trade.{bargain, exchange_state, exchange_answer, traded_state, fee_of}
 use Rattle.tally.specs.Agreement.{fee_said}
-use Rattle.tally.specs.Deeds.{Deed, Try, MarginRule, is_ok}
+use Rattle.tally.specs.Deeds.{Try, MarginRule, is_ok}
 use Rattle.tally.specs.Deeds.{Deed.trades}
 use Rattle.tally.specs.Tally.{History, if_so}
 use Rattle.tally.proofs.Algebra.{lin}
-use Rattle.tally.proofs.Lists.{Each, Each.none, Each.more}
-use Rattle.book.specs.declared.desk.Desk.{Desk}
+use Rattle.tally.proofs.Lists.{Each.none, Each.more}
 use Rattle.book.specs.declared.entries.Movement.{Movement}
 use Rattle.book.specs.declared.permit.ClosingPermit.{ClosingPermit}
 use Rattle.book.specs.declared.permit.DayPermit.{DayPermit}
 use Rattle.book.specs.Desk.{has_room}
-use Rattle.book.specs.Entries.{moved, fee_moves, desk_with}
+use Rattle.book.specs.Entries.{fee_moves, desk_with}
 use Rattle.book.specs.Gates.{entry_gate}
 use Rattle.book.specs.Trading.{behind, trade_bargain, trade_moves}
 use Rattle.book.proofs.Striking.{dealt}
 use Rattle.law.specs.Entries.{recorded}
-use Rattle.law.specs.Ways.{Held, Call, refused, entered, after}
+use Rattle.law.specs.Ways.{Held, refused, entered, after}
 use Rattle.law.specs.Ways.{Call.trade}
 use Rattle.law.proofs.Gates.{entry_open, roomy}
 use Rattle.law.proofs.Paying.{eqb_swap, moved_fits, written}

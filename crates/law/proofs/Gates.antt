@@ -1,5 +1,5 @@
 -- What a call that passed its gate tells of the book.
-use Rattle.std.proofs.Common.{◌≡◌, ℕ, ◌+◌, ◌-◌, ◌*◌, ◌≤◌, Bool, true, false, cond, not, ◌||◌, eqb, leb, [], ◌∷◌, Some, None, Option, sym, refl, ap, ◌∙◌, arith}
+use Rattle.std.proofs.Common.{◌≡◌, ℕ, ◌+◌, ◌-◌, ◌*◌, ◌≤◌, Bool, true, false, cond, not, ◌||◌, eqb, [], ◌∷◌, Some, None, Option, sym, refl, ap, ◌∙◌, arith}
 use Rattle.std.proofs.lemmas.Bool.{or_parts, not-false, eqb-true, leb-true, eq-eqb, false≢true, cond-true}
 use Rattle.refusal.specs.declared.Refusal.{Refusal}
 use Rattle.refusal.specs.declared.Refusal.TheVariants.{ArchiveLength, WrongPhase, ForeignPermit}
@@ -14,7 +14,7 @@ use Rattle.book.specs.declared.desk.Phase.TheVariants.{Idle}
 use Rattle.book.specs.declared.permit.ClosingPermit.{ClosingPermit}
 use Rattle.book.specs.declared.permit.DayPermit.{DayPermit}
 use Rattle.book.specs.Closing.{settle_refusal}
-use Rattle.book.specs.Desk.{phase_in, phase_of, is_resting_phase, is_day, is_closing, wrong_length, foreign, has_room, free_slots}
+use Rattle.book.specs.Desk.{phase_in, phase_of, is_resting_phase, is_day, is_closing, wrong_length, has_room, free_slots}
 use Rattle.book.specs.Gates.{or_else, resting_gate, day_reasons, closing_reasons, day_gate, closing_gate, entry_gate, settle_gate}
 use Rattle.book.specs.Permits.{take_up_day_refusal, take_up_closing_refusal}
 

@@ -1,17 +1,15 @@
 -- The accepted pay-ins and pay-outs: one entry each.
-use Rattle.std.proofs.Common.{◌≡◌, ℕ, ◌+◌, ◌-◌, ◌*◌, ◌<◌, ◌≤◌, Bool, true, false, not, eqb, leb, ◌⊎◌, List, [], ◌∷◌, length, ℤ, pos, ◌+ℤ◌, ◌-ℤ◌, neg_ℤ, Some, None, Option, sym, refl, ap, ◌∙◌, subst, inl, inr, arith, w64, SFits}
-use Rattle.std.proofs.lemmas.Int.{ints}
+use Rattle.std.proofs.Common.{◌≡◌, ℕ, ◌+◌, ◌-◌, ◌*◌, ◌<◌, ◌≤◌, Bool, true, false, eqb, leb, ◌⊎◌, List, [], ◌∷◌, length, ℤ, pos, ◌+ℤ◌, ◌-ℤ◌, neg_ℤ, None, Option, sym, ap, ◌∙◌, subst, inl, inr, arith, w64, SFits}
 use Rattle.std.proofs.lemmas.Bool.{not-false, and_parts, leb-true, eq-eqb, ne_eqb, cases_eq}
-use Rattle.refusal.specs.declared.Refusal.{Refusal}
 use Rattle.refusal.proofs.Passed.{passed}
 use Rattle.rules.specs.Units.{fen_units}
 use Rattle.archive.specs.declared.entry.Kind.{Kind}
 use Rattle.archive.specs.declared.entry.Kind.TheVariants.{PayIn, PayOut}
 use Rattle.ledger.specs.declared.state.State.{State}
 use Rattle.ledger.specs.Cash.{credit_reasons, credit_refusal, credit_state, debit_reasons, debit_refusal, debit_state}
-use Rattle.ledger.specs.Places.{account_at, is_resting, known_account}
+use Rattle.ledger.specs.Places.{known_account}
 use Rattle.ledger.specs.Sound.{Sound}
-use Rattle.tally.specs.Deeds.{Deed, Try, is_none, after as then}
+use Rattle.tally.specs.Deeds.{Try, is_none}
 use Rattle.tally.specs.Deeds.{Deed.pays_in, Deed.pays_out}
 use Rattle.tally.specs.Tally.{History, if_so}
 use Rattle.tally.proofs.Algebra.{lin}
@@ -25,7 +23,7 @@ use Rattle.book.specs.Desk.{has_room}
 use Rattle.book.specs.Entries.{moved, desk_with, bytes_with}
 use Rattle.book.specs.Gates.{entry_gate}
 use Rattle.law.specs.Entries.{recorded}
-use Rattle.law.specs.Ways.{Held, Call, refused, entered, after}
+use Rattle.law.specs.Ways.{Held, refused, entered, after}
 use Rattle.law.specs.Ways.{Call.pay_in, Call.pay_out}
 use Rattle.law.proofs.Chains.{Fits, Archived, all_archived}
 use Rattle.law.proofs.Gates.{both_none, entry_open, roomy}

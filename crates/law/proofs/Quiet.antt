@@ -1,5 +1,5 @@
 -- The accepted calls that enter nothing in the archive.
-use Rattle.std.proofs.Common.{◌≡◌, ℕ, ◌+◌, ◌-◌, ◌≤◌, Bool, true, false, cond, not, List, [], ◌∷◌, Some, None, Option, sym, refl, ap, ◌∙◌, subst, arith}
+use Rattle.std.proofs.Common.{◌≡◌, ℕ, ◌+◌, ◌≤◌, Bool, true, false, List, ◌∷◌, Some, None, Option, sym, refl, ap, ◌∙◌, subst, arith}
 use Rattle.std.proofs.lemmas.Bool.{not-false}
 use Rattle.refusal.specs.declared.Refusal.{Refusal}
 use Rattle.refusal.proofs.Passed.{passed}
@@ -10,7 +10,7 @@ use Rattle.ledger.specs.Days.{open_reasons, open_refusal, open_state, close_refu
 use Rattle.ledger.specs.Listing.{list_refusal, list_state, reweigh_refusal, reweigh_state}
 use Rattle.ledger.specs.Places.{is_resting, is_open, is_closed}
 use Rattle.ledger.specs.Quotes.{quote_refusal, quote_state, deliver_refusal, deliver_state}
-use Rattle.tally.specs.Deeds.{Deed, Try, is_none}
+use Rattle.tally.specs.Deeds.{Try, is_none}
 use Rattle.tally.specs.Deeds.{Deed.lists, Deed.reweighs, Deed.opens, Deed.quotes, Deed.delivers, Deed.closes}
 use Rattle.tally.specs.Tally.{History}
 use Rattle.book.specs.declared.desk.Desk.{Desk}
@@ -22,9 +22,9 @@ use Rattle.book.specs.Desk.{has_room}
 use Rattle.book.specs.Gates.{resting_gate, day_gate}
 use Rattle.book.specs.Permits.{noted, with_laid, closing_permit}
 use Rattle.book.proofs.Staged.{list_stage, reweigh_stage, quote_stage, deliver_stage}
-use Rattle.law.specs.Ways.{Held, Call, refused, after}
+use Rattle.law.specs.Ways.{Held, refused, after}
 use Rattle.law.specs.Ways.{Call.listing, Call.ratio, Call.day, Call.quote, Call.delivery, Call.end_day, Call.lay_down_day, Call.lay_down_closing, Call.take_up_day, Call.take_up_closing}
-use Rattle.law.proofs.Gates.{both_none, none_some, rests, day_open, closing_out, taken_up, day_taken_up, Out, roomy, open_busy, closed_busy, open_not_closed, resting_not_closed}
+use Rattle.law.proofs.Gates.{both_none, none_some, rests, day_open, taken_up, day_taken_up, Out, roomy, open_busy, open_not_closed, resting_not_closed}
 use Rattle.law.proofs.Standing.{Running, moves_on, laid_archived}
 
 module _ (h : Held) (start : ℕ) (tries : List Try) (told : History) (es : ℕ → List Movement) (hand : Option ClosingPermit) (r : Running h start tries told es hand) where

@@ -1,16 +1,13 @@
 -- A refused call changes neither the book nor the archive, and enters nothing.
-use Rattle.std.proofs.Common.{◌≡◌, ℕ, true, false, List, [], length, Some, None, Ok, Err, Option, Result, sym, refl, ap, ◌∙◌, arith}
+use Rattle.std.proofs.Common.{◌≡◌, ℕ, true, false, [], length, Some, None, Ok, Err, Result, refl, ap, arith}
 use Rattle.refusal.specs.declared.Refusal.{Refusal}
 use Rattle.ledger.specs.declared.state.Bargain.{Bargain}
 use Rattle.ledger.specs.declared.state.Deal.{Deal}
-use Rattle.ledger.specs.declared.state.State.{State}
 use Rattle.ledger.specs.Cash.{credit_state, debit_state}
 use Rattle.ledger.specs.Days.{open_state, close_state}
 use Rattle.ledger.specs.Listing.{list_state, reweigh_state}
 use Rattle.ledger.specs.Quotes.{quote_state, deliver_state}
 use Rattle.ledger.specs.Trade.{exchange_answer, exchange_state}
-use Rattle.book.specs.declared.desk.Desk.{Desk}
-use Rattle.book.specs.declared.entries.Movement.{Movement}
 use Rattle.book.specs.Cash.{pay_in_moves, pay_out_moves}
 use Rattle.book.specs.Closing.{settle_state, settle_moves, settle_desk}
 use Rattle.book.specs.Entries.{desk_with, bytes_with}

@@ -1,31 +1,28 @@
 -- Along every way: a book is idle, or founded and running.
-use Rattle.std.proofs.Common.{◌≡◌, ℕ, ◌/◌, Bool, true, false, cond, not, ◌⊎◌, List, [], ◌∷◌, length, Some, None, Ok, Err, Option, Result, sym, refl, ap, ◌∙◌, subst, inl, inr, arith}
+use Rattle.std.proofs.Common.{◌≡◌, ℕ, Bool, true, false, cond, not, ◌⊎◌, List, [], ◌∷◌, length, Some, None, Ok, Option, Result, sym, refl, ap, ◌∙◌, subst, inl, inr}
 use Rattle.std.proofs.lemmas.Bool.{false≢true}
 use Rattle.refusal.specs.declared.Refusal.{Refusal}
 use Rattle.refusal.specs.declared.Refusal.TheVariants.{ArchiveLength, WrongPhase, OutOfRange, RateRange}
-use Rattle.refusal.specs.Reasons.{first}
 use Rattle.refusal.proofs.Passed.{passed}
 use Rattle.rules.specs.Units.{min_rate}
 use Rattle.archive.specs.Layout.{allowed}
 use Rattle.ledger.specs.declared.state.Bargain.{Bargain}
 use Rattle.ledger.specs.declared.state.Deal.{Deal}
 use Rattle.ledger.specs.Trade.{exchange_answer}
-use Rattle.ledger.specs.Days.{bad_rate, start_refusal, started}
-use Rattle.ledger.specs.Places.{known_account}
+use Rattle.ledger.specs.Days.{bad_rate, start_refusal}
 use Rattle.tally.specs.Agreement.{changes}
-use Rattle.tally.specs.Deeds.{Deed, Try, is_none, ledger, history}
-use Rattle.tally.specs.Deeds.{Deed.lists, Deed.reweighs, Deed.opens, Deed.pays_in, Deed.pays_out, Deed.quotes, Deed.trades, Deed.delivers, Deed.closes, Deed.settles}
+use Rattle.tally.specs.Deeds.{Try, is_none, ledger, history}
 use Rattle.tally.specs.Tally.{History}
 use Rattle.book.specs.declared.entries.Movement.{Movement}
 use Rattle.book.specs.declared.permit.ClosingPermit.{ClosingPermit}
-use Rattle.book.specs.Desk.{has_room, wrong_length}
+use Rattle.book.specs.Desk.{wrong_length}
 use Rattle.book.specs.Gates.{why}
 use Rattle.book.specs.Founding.{idle_desk, idle_state, bad_book, found_gate, found_desk, found_state, found_bytes}
 use Rattle.book.specs.Trading.{behind}
 use Rattle.law.specs.Entries.{recorded}
 use Rattle.law.specs.Ways.{Held, Call, refused, entered, after, idle, way, accepted, joined, deeds, rate_from, founding_rate, entries, hand_after, in_hand}
 use Rattle.law.specs.Ways.{Call.founding, Call.listing, Call.ratio, Call.day, Call.pay_in, Call.pay_out, Call.quote, Call.trade, Call.delivery, Call.end_day, Call.settle, Call.lay_down_day, Call.lay_down_closing, Call.take_up_day, Call.take_up_closing}
-use Rattle.law.proofs.Chains.{Archived, begun_archived}
+use Rattle.law.proofs.Chains.{begun_archived}
 use Rattle.law.proofs.Dealing.{at_trade}
 use Rattle.law.proofs.Gates.{both_none, none_some}
 use Rattle.law.proofs.Paying.{at_pay_in, at_pay_out}

@@ -1,27 +1,24 @@
 -- An accepted settle: one entry for each account.
-use Rattle.std.proofs.Common.{◌≡◌, ℕ, zero, suc, ◌+◌, ◌-◌, ◌*◌, ◌<◌, ◌≤◌, Bool, true, false, cond, leb, List, [], ◌∷◌, map, length, get_or, ℤ, pos, Some, None, Ok, Err, Option, sym, refl, ap, ◌∙◌, subst, arith, w64, SFits}
+use Rattle.std.proofs.Common.{◌≡◌, ℕ, zero, suc, ◌+◌, ◌<◌, true, cond, leb, List, ◌∷◌, map, length, ℤ, pos, None, Ok, Err, Option, sym, refl, ap, ◌∙◌, subst, arith, w64, SFits}
 use Rattle.std.proofs.lemmas.Bool.{and_parts, leb-true, le-leb, and_from, cond-true, false≢true}
 use Rattle.std.specs.List.{range_with_len}
 use Rattle.refusal.specs.declared.Refusal.TheVariants.{WrongPhase}
-use Rattle.ledger.specs.declared.state.State.{State}
-use Rattle.ledger.specs.Places.{account_at, is_closed, is_resting, known_account}
+use Rattle.ledger.specs.Places.{is_closed, is_resting, known_account}
 use Rattle.ledger.specs.Settle.{prices_of, outcome_to, change_of, settled_by, settlement}
 use Rattle.ledger.specs.Sound.{Sound}
-use Rattle.ledger.specs.Sums.{tabulated}
 use Rattle.ledger.proofs.Tabulated.{tabulated_at}
 use Rattle.tally.specs.Agreement.{change_said}
-use Rattle.tally.specs.Deeds.{Deed, Try, PriceRule, MarginRule}
+use Rattle.tally.specs.Deeds.{Try, PriceRule, MarginRule}
 use Rattle.tally.specs.Deeds.{Deed.settles}
 use Rattle.tally.specs.Tally.{History}
 use Rattle.tally.proofs.Lists.{Each, Each.none, Each.more}
-use Rattle.book.specs.declared.desk.Desk.{Desk}
 use Rattle.book.specs.declared.entries.Movement.{Movement}
 use Rattle.book.specs.declared.permit.ClosingPermit.{ClosingPermit}
-use Rattle.book.specs.Closing.{settle_refusal, settle_state, settle_moves, settle_desk, with_settled}
+use Rattle.book.specs.Closing.{settle_state, settle_moves, settle_desk, with_settled}
 use Rattle.book.specs.Entries.{settlement_from, settlement_moves, desk_with, bytes_with}
-use Rattle.book.proofs.Entering.{with_founded, with_slots, with_used}
+use Rattle.book.proofs.Entering.{with_founded}
 use Rattle.law.specs.Entries.{recorded}
-use Rattle.law.specs.Ways.{Held, Call, refused, entered, after}
+use Rattle.law.specs.Ways.{Held, refused, entered, after}
 use Rattle.law.specs.Ways.{Call.settle}
 use Rattle.law.proofs.Chains.{Fits, Archived, all_archived}
 use Rattle.law.proofs.Gates.{settle_out, none_some, closed_busy}

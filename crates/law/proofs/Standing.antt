@@ -1,12 +1,12 @@
 -- What holds of a book that is founded, along every way, with the tries that its ledger has seen.
-use Rattle.std.proofs.Common.{◌≡◌, ℕ, zero, suc, ◌+◌, ◌-◌, ◌*◌, ◌<◌, ◌≤◌, Bool, true, false, cond, not, ◌&&◌, eqb, List, [], ◌∷◌, map, length, get_or, ℤ, pos, ◌+ℤ◌, ◌-ℤ◌, neg_ℤ, Some, None, Option, sym, refl, ap, ◌∙◌, subst, arith}
+use Rattle.std.proofs.Common.{◌≡◌, ℕ, ◌+◌, ◌≤◌, Bool, true, false, cond, List, ◌∷◌, Some, Option, sym, ap, ◌∙◌, subst, arith}
 use Rattle.std.proofs.lemmas.Bool.{cond-true}
 use Rattle.ledger.specs.declared.state.State.{State}
 use Rattle.ledger.specs.Days.{bad_rate}
 use Rattle.ledger.specs.Places.{is_resting, known_account}
 use Rattle.ledger.specs.Sound.{Sound}
 use Rattle.tally.specs.Agreement.{said, changes}
-use Rattle.tally.specs.Deeds.{Deed, Try, accepts, after as then, ledger, history}
+use Rattle.tally.specs.Deeds.{Try, accepts, after as then, ledger, history}
 use Rattle.tally.specs.Tally.{History}
 use Rattle.tally.proofs.Algebra.{lin}
 use Rattle.tally.proofs.Matches.{Sized}

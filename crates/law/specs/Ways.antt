@@ -10,7 +10,7 @@ use Rattle.ledger.specs.Days.{open_state, close_state}
 use Rattle.ledger.specs.Listing.{list_state, reweigh_state}
 use Rattle.ledger.specs.Quotes.{quote_state, deliver_state}
 use Rattle.ledger.specs.Trade.{exchange_state}
-use Rattle.tally.specs.Deeds.{Deed, PriceRule, MarginRule, is_none}
+use Rattle.tally.specs.Deeds.{PriceRule, MarginRule, is_none}
 use Rattle.tally.specs.Deeds.{Deed.lists, Deed.reweighs, Deed.opens, Deed.pays_in, Deed.pays_out, Deed.quotes, Deed.trades, Deed.delivers, Deed.closes, Deed.settles}
 use Rattle.tally.specs.Tally.{History}
 use Rattle.book.specs.declared.desk.Desk.{Desk}

@@ -1,4 +1,6 @@
 // What holds of a book whatever is tried of it (docs/PROMISES.md, "The law").
+#![tactic(auto)]
+
 ghost use Rattle.std.specs.Prelude.{◌≡◌};
 ghost use Rattle.ledger.specs.Questions.{funds_at};
 ghost use Rattle.law.specs.Law.{BooksBalance, Told};

@@ -1,5 +1,7 @@
 // twodays: the two days of docs/RULES.md, "Worked example", by direct calls of a book, with some calls that are refused
 // on the way; the figures after each day, in units, the entries used, and the slots of account 1's chain.
+#![tactic(auto)]
+
 ghost use Rattle.std.specs.Prelude.{◌≡◌, None};
 ghost use Rattle.book.specs.declared.permit.DayPermit.{DayPermit};
 ghost use Rattle.book.specs.Gates.{day_gate};

@@ -1,4 +1,4 @@
-use Rattle.std.proofs.Common.{◌≡◌, ◌+◌, ◌≤◌, length, arith, rules}
+use Rattle.std.proofs.Common.{◌+◌, ◌≤◌, length, arith, rules}
 use borrow.Author.Rules.{get_or_read}
 use Rattle.book.proofs.Entering.{left_all, left_less, left_none, takes_one}
 use Rattle.book.proofs.entries.enter_settlement.Goals as goal

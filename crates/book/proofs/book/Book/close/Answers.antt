@@ -10,4 +10,8 @@ invariant_of-self c =
     let b = c.args.self.now in
     let s = b.ledger.state in
     let is = sym c.close-answer.ensures.state in
-    (b.slots, (subst (λ (x : State). RoomIn b.desk x) is (close_room b.desk s c.args.rate b.room), (subst (λ (x : State). RestIn b.desk x) is (close_rest b.desk s (close_refusal s c.args.rate) c.args.rate b.rest), tt)))
+    record {
+      slots = b.slots;
+      room = subst (λ (x : State). RoomIn b.desk x) is (close_room b.desk s c.args.rate b.room);
+      rest = subst (λ (x : State). RestIn b.desk x) is (close_rest b.desk s (close_refusal s c.args.rate) c.args.rate b.rest);
+    }

@@ -14,4 +14,8 @@ pub invariant_of-self : goal.invariant_of-self
 invariant_of-self c =
     let may = founds c.args.self.now.desk (length c.args.archive.now) c.args.number (sym c.check_founding.ensures ∙ c.in_default.is) in
     let slots = c.begin_archive-slots.ensures.slots in
-    (founded_slots c.desk-self.result c.args.number c.begin_archive-slots.result c.desk-self.ensures (subst (λ (n : ℕ). 64 ≤ n) (sym slots) may.least) (subst (λ (n : ℕ). n ≤ 262144) (sym slots) may.most), (resting_room c.desk-self.result c.in_ok-ledger.ledger.state (ap (λ (x : State). is_resting x.stage) c.in_ok-ledger.ensures.1), (λ _. ap (λ (x : Desk). x.laid) c.desk-self.ensures, tt)))
+    record {
+      slots = founded_slots c.desk-self.result c.args.number c.begin_archive-slots.result c.desk-self.ensures (subst (λ (n : ℕ). 64 ≤ n) (sym slots) may.least) (subst (λ (n : ℕ). n ≤ 262144) (sym slots) may.most);
+      room = resting_room c.desk-self.result c.in_ok-ledger.ledger.state (ap (λ (x : State). is_resting x.stage) c.in_ok-ledger.ensures.1);
+      rest = λ _. ap (λ (x : Desk). x.laid) c.desk-self.ensures;
+    }

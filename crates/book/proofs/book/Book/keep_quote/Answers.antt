@@ -9,4 +9,8 @@ invariant_of-self c =
     let s = b.ledger.state in
     let u = c.quote-answer.new.self.state in
     let same : u.stage ≡ s.stage = ap (λ (x : State). x.stage) c.quote-answer.ensures.state ∙ quote_stage _ s c.args.place c.args.bid c.args.ask in
-    (b.slots, (same_stage b.desk s u same b.room, (same_rest b.desk s u same b.rest, tt)))
+    record {
+      slots = b.slots;
+      room = same_stage b.desk s u same b.room;
+      rest = same_rest b.desk s u same b.rest;
+    }

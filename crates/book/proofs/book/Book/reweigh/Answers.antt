@@ -9,4 +9,8 @@ invariant_of-self c =
     let s = b.ledger.state in
     let u = c.reweigh.new.self.state in
     let same : u.stage ≡ s.stage = ap (λ (x : State). x.stage) c.reweigh.ensures.state ∙ reweigh_stage _ s c.args.place c.args.ratio in
-    (b.slots, (same_stage b.desk s u same b.room, (same_rest b.desk s u same b.rest, tt)))
+    record {
+      slots = b.slots;
+      room = same_stage b.desk s u same b.room;
+      rest = same_rest b.desk s u same b.rest;
+    }

@@ -11,7 +11,11 @@ invariant_of-self g c =
     let s = b.ledger.state in
     let u = c.exchange.new.self.state in
     let same : u.stage ≡ s.stage = ap (λ (x : State). x.stage) c.exchange.ensures.state ∙ exchange_stage _ s c.args.deal in
-    (b.slots, (same_stage b.desk s u same b.room, (same_rest b.desk s u same b.rest, tt)))
+    record {
+      slots = b.slots;
+      room = same_stage b.desk s u same b.room;
+      rest = same_rest b.desk s u same b.rest;
+    }
 
 pub returns : goal.returns
 returns g c =

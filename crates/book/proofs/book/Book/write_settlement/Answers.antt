@@ -10,4 +10,8 @@ pub invariant_of-self : goal.invariant_of-self
 invariant_of-self c =
     let b = c.args.self.now in
     let d = with_settled b.desk c.args.said.now.contracts in
-    (settled_slots d c.enter_settlement.new.desk c.day-day.result c.accounts-accounts.result c.args.said.now.changes c.enter_settlement.ensures.desk (search rules) (search rules) (search rules), (resting_room c.enter_settlement.new.desk b.ledger.state c.requires.rests, (λ _. ap (λ (x : Desk). x.laid) c.enter_settlement.ensures.desk ∙ with_laid_kept (settlement_moves c.day-day.result c.accounts-accounts.result c.args.said.now.changes) d ∙ b.rest c.requires.rests, tt)))
+    record {
+      slots = settled_slots d c.enter_settlement.new.desk c.day-day.result c.accounts-accounts.result c.args.said.now.changes c.enter_settlement.ensures.desk (search rules) (search rules) (search rules);
+      room = resting_room c.enter_settlement.new.desk b.ledger.state c.requires.rests;
+      rest = λ _. ap (λ (x : Desk). x.laid) c.enter_settlement.ensures.desk ∙ with_laid_kept (settlement_moves c.day-day.result c.accounts-accounts.result c.args.said.now.changes) d ∙ b.rest c.requires.rests;
+    }
