@@ -14,6 +14,8 @@ import sys
 
 WORD = r"[A-Za-z_][A-Za-z0-9_']*(?:-[A-Za-z0-9_']+)+"
 TOKEN = re.compile(r"(?<![A-Za-z0-9_'\-])(" + WORD + r")(?![A-Za-z0-9_'\-])")
+# What a print-out calls the kinds of entries; the pages quote them so.
+KINDS = {"pay-in", "pay-out", "trade-fee"}
 CRATES = sorted(os.listdir("crates"))
 OWN_PATH = re.compile(r"Rattle\.(?:%s)\." % "|".join(CRATES))
 
@@ -108,7 +110,7 @@ def main():
     pages = ["README.md"] + [os.path.join("docs", p) for p in sorted(os.listdir("docs")) if p.endswith(".md")]
     for path in pages:
         text = open(path, encoding="utf-8").read()
-        new = re.sub(r"`(" + WORD + r")`", lambda m: "`" + respelled(m[1]) + "`" if m[1] in names else m[0], text)
+        new = re.sub(r"`(" + WORD + r")`", lambda m: "`" + respelled(m[1]) + "`" if m[1] in names and m[1] not in KINDS else m[0], text)
         if not look and new != text:
             open(path, "w", encoding="utf-8").write(new)
 

@@ -6,7 +6,7 @@ ghost use Rattle.ledger.specs.Cash.{credit_refusal, credited_account, debit_refu
 
 use crate::state::{Account, Stage, State};
 use refusal::Refusal;
-use rules::units::{ACCOUNTS, DAY_PAY_OUTS, FEN_UNITS, KEPT_YUAN, MAX_PAID_IN_FEN, YUAN_UNITS};
+use rules::units::{ACCOUNTS, DAY_PAY_OUTS, FEN_UNITS, MAX_PAID_IN_FEN};
 
 impl Stage {
     pub(crate) fn is_open(&self) -> bool
@@ -49,7 +49,7 @@ pub(crate) fn check_credit(state: &State, account: u64, fen: u64, room: bool) ->
 fn falls_short(account: &Account, fen: u64) -> bool
     ensures { result ≡ int_lt account.now.available (pos (fen_units * fen + kept_yuan * yuan_units)) }
 {
-    (account.available as i128) < fen as i128 * FEN_UNITS as i128 + (KEPT_YUAN * YUAN_UNITS) as i128
+    (account.available as i128) < fen as i128 * 100 + 500_000
 }
 
 pub(crate) fn check_debit(state: &State, account: u64, fen: u64, room: bool) -> Option<Refusal>
@@ -90,8 +90,8 @@ fn with_credit(account: &Account, fen: u64) -> Account
 }
 
 pub(crate) fn credited(state: &State, account: u64, fen: u64) -> State
-    requires le_account { (1 ≤ account) × ((account ≤ 32) × (fen ≤ 1000000000000)) }
-    requires account_bound { ((account_at state.now (account - 1)).paid ≤ 1000000000000) × ((account_at state.now (account - 1)).available ≤ℤ pos 9000000000000000000) }
+    requires known { (1 ≤ account) × ((account ≤ 32) × (fen ≤ 1000000000000)) }
+    requires room { ((account_at state.now (account - 1)).paid ≤ 1000000000000) × ((account_at state.now (account - 1)).available ≤ℤ pos 9000000000000000000) }
     ensures { result ≡ with_account state.now (account - 1) (credited_account (account_at state.now (account - 1)) fen) }
 {
     let mut next = *state;
@@ -114,8 +114,8 @@ fn with_debit(account: &Account, fen: u64) -> Account
 }
 
 pub(crate) fn debited(state: &State, account: u64, fen: u64) -> State
-    requires le_account { (1 ≤ account) × (account ≤ 32) }
-    requires fen_bound { (pos (100 * fen + 500000) ≤ℤ (account_at state.now (account - 1)).available) × ((account_at state.now (account - 1)).payouts ≤ 2) }
+    requires known { (1 ≤ account) × (account ≤ 32) }
+    requires covered { (pos (100 * fen + 500000) ≤ℤ (account_at state.now (account - 1)).available) × ((account_at state.now (account - 1)).payouts ≤ 2) }
     ensures { result ≡ with_account state.now (account - 1) (debited_account (account_at state.now (account - 1)) fen) }
 {
     let mut next = *state;

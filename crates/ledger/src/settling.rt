@@ -115,8 +115,8 @@ fn contract_outcome<M: MarginRule>(
     contract: &Contract,
     row: &Row,
 ) -> Outcome
-    requires price_bound { (price ≤ 9999) × ((state.now.closing ≤ 99999) × ((state.now.rate ≤ 99999) × (Small row.now))) }
-    requires previous_bound { (contract.now.previous ≤ 9999) × (contract.now.delivery ≤ 10000) }
+    requires priced { (price ≤ 9999) × ((state.now.closing ≤ 99999) × ((state.now.rate ≤ 99999) × (Small row.now))) }
+    requires previous { (contract.now.previous ≤ 9999) × (contract.now.delivery ≤ 10000) }
     ensures value { result ≡ row_outcome (M.holding rule.now) state.now price (Some contract.now) row.now }
     ensures near { Near 1 result }
 {
@@ -146,7 +146,7 @@ fn row_outcome<M: MarginRule>(
     held: &Option<Contract>,
     row: &Row,
 ) -> Outcome
-    requires price_bound { (price ≤ 9999) × ((state.now.closing ≤ 99999) × ((state.now.rate ≤ 99999) × (Small row.now))) }
+    requires priced { (price ≤ 9999) × ((state.now.closing ≤ 99999) × ((state.now.rate ≤ 99999) × (Small row.now))) }
     requires settleable { Settleable held.now }
     ensures value { result ≡ row_outcome (M.holding rule.now) state.now price held.now row.now }
     ensures near { Near 1 result }

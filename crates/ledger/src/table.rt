@@ -53,8 +53,8 @@ fn balance(gained: u64, spent: u64) -> i64
 }
 
 fn plus(start: i64, day: i64) -> i64
-    requires pos_bound { (neg_ℤ (pos 50000000000000) ≤ℤ start) × (start ≤ℤ pos 50000000000000) }
-    requires pos_bound_2 { (neg_ℤ (pos 100000000000000) ≤ℤ day) × (day ≤ℤ pos 100000000000000) }
+    requires carried { (neg_ℤ (pos 50000000000000) ≤ℤ start) × (start ≤ℤ pos 50000000000000) }
+    requires traded { (neg_ℤ (pos 100000000000000) ≤ℤ day) × (day ≤ℤ pos 100000000000000) }
     ensures value { result ≡ start +ℤ day }
     ensures near { (neg_ℤ (pos 150000000000000) ≤ℤ result) × (result ≤ℤ pos 150000000000000) }
 {
@@ -95,7 +95,7 @@ impl Row {
     // One row after its side of a trade.
     pub(crate) fn after(&self, part: Part, effect: Effect, price: u32, quantity: u32) -> Row
         requires small { (Small self.now) × ((price ≤ 9999) × (quantity ≤ 50000)) }
-        requires quantity_value { lacking self.now part effect quantity ≡ false }
+        requires held { lacking self.now part effect quantity ≡ false }
         ensures { result ≡ row_after self.now part effect price quantity }
     {
         let mut row = *self;

@@ -104,8 +104,8 @@ fn check_sides(state: &State, deal: &Deal, bargain: &Bargain, room: bool) -> Opt
 
 // One side pays its fee, and moves its margin where it opens.
 fn charge(account: &Account, effect: Effect, margin: u64, fee: u64) -> Account
-    requires margin_bound { (margin ≤ 100000000000099) × ((fee ≤ 50000000000) × (account.now.margin ≤ 9000000000000000000)) }
-    requires pos_bound { neg_ℤ (pos 9000000000000000000) ≤ℤ account.now.available }
+    requires small { (margin ≤ 100000000000099) × ((fee ≤ 50000000000) × (account.now.margin ≤ 9000000000000000000)) }
+    requires near { neg_ℤ (pos 9000000000000000000) ≤ℤ account.now.available }
     ensures { result ≡ charged account.now effect margin fee }
 {
     match effect {
@@ -145,8 +145,8 @@ impl Table {
         price: u32,
         quantity: u32,
     )
-        requires account_bound { (account < 32) × ((place < 12) × ((price ≤ 9999) × (quantity ≤ 50000))) }
-        requires small { (Small (row_at self.old account place)) × (lacking (row_at self.old account place) part effect quantity ≡ false) }
+        requires placed { (account < 32) × ((place < 12) × ((price ≤ 9999) × (quantity ≤ 50000))) }
+        requires held { (Small (row_at self.old account place)) × (lacking (row_at self.old account place) part effect quantity ≡ false) }
         ensures { self.new ≡ trade_row self.old account place part effect price quantity }
     {
         let row = self.at(account, place);

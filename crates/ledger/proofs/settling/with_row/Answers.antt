@@ -12,7 +12,7 @@ row_outcome-requires g c =
     let sound = c.requires.sound in
     let r = sound.ranges in
     record {
-      price_bound = (c.requires.priced a.place c.requires.place, (r.3, (r.2, subst Small (sym c.at-row.ensures) (small_row s a.account a.place c.requires.account c.requires.place sound))));
+      priced = (c.requires.priced a.place c.requires.place, (r.3, (r.2, subst Small (sym c.at-row.ensures) (small_row s a.account a.place c.requires.account c.requires.place sound))));
       settleable = settleable s a.place c.requires.place sound;
     }
 
