@@ -1,5 +1,5 @@
 // A settling: prices and marks, what each account's rows come to, and the state that it leaves (docs/RULES.md, "Settling").
-ghost use Rattle.std.specs.Prelude.{◌≡◌, ℕ, ◌+◌, ◌*◌, ◌%◌, ◌<◌, ◌≤◌, true, get_or, ℤ, pos, ◌+ℤ◌, ◌-ℤ◌, neg_ℤ, ◌≤ℤ◌, Some, slice_index, slice_index_or};
+ghost use Rattle.std.specs.Prelude.{◌≡◌, ℕ, ◌+◌, ◌*◌, ◌%◌, ◌<◌, ◌≤◌, true, ℤ, pos, ◌+ℤ◌, ◌-ℤ◌, neg_ℤ, ◌≤ℤ◌, Some, slice_index, slice_index_or};
 ghost use Rattle.ledger.specs.Places.{account_at, place_at, figures_of, is_closed};
 ghost use Rattle.ledger.specs.Rows.{Small, blank, row_at};
 ghost use Rattle.ledger.specs.Sound.{Sound};
@@ -335,7 +335,7 @@ fn changes(outcomes: &[Outcome; 32]) -> [i64; 32]
 
 fn delivery_fees(outcomes: &[Outcome; 32]) -> u64
     requires { NearAll outcomes.now }
-    ensures value { result ≡ sum_to (λ a. (get_or outcomes.now a nothing).fee) 32 }
+    ensures value { result ≡ sum_to (λ a. (slice_index_or outcomes.now a nothing).fee) 32 }
     ensures most { result ≤ 38400000000000 }
 {
     let mut sum = 0;

@@ -5,7 +5,7 @@ use Rattle.ledger.specs.declared.state.Listing.{Listing}
 use Rattle.tally.specs.Deeds.{Deed, PriceRule, MarginRule}
 use Rattle.tally.specs.Deeds.{Deed.lists, Deed.reweighs, Deed.opens, Deed.pays_in, Deed.pays_out, Deed.quotes, Deed.trades, Deed.delivers, Deed.closes, Deed.settles}
 
--- `on-settles x y c` is y of what a settling c brought, and x of any other deed c; so with each of the others.
+-- `on_settles x y c` is y of what a settling c brought, and x of any other deed c; so with each of the others.
 abbrev pub on_lists : {X : Type 0} → X → (Listing → X) → Deed → X
 on_lists x y (lists l) = y l
 on_lists x y (reweighs p n) = x
