@@ -1,4 +1,3 @@
 pub mod LimitLaws
 pub mod MarkLaws
 pub mod AllLaws
-pub mod WorkedFigures

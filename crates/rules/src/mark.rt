@@ -18,6 +18,7 @@ pub fn mark<R: PriceRule>(rule: &R, figures: &Figures, rate: u64) -> u128
 }
 
 // In 128 bits, which have room for every price and rate.
+#[tactic(auto, using(crate::proofs::MarkLaws::marked_small))]
 fn worth(price: u64, rate: u64) -> u128
     ensures value { result ≡ marked price rate }
     ensures small { price ≤ max_price → rate ≤ max_rate → result ≤ max_mark }
