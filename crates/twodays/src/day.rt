@@ -1,10 +1,12 @@
 // The steps of a day with a permit that stays good: every step hands it back, so that it can always be laid down and a
 // program never has to let one go. A step answers the number of its refusal, or 0.
-ghost use Rattle.std.specs.Prelude.{◌≡◌, None, Option};
+ghost use Rattle.std.specs.Prelude.{◌≡◌, None, Option, length, true};
 ghost use Rattle.refusal.specs.declared.Refusal.{Refusal};
 ghost use Rattle.book.specs.declared.permit.DayPermit.{DayPermit};
 ghost use Rattle.book.specs.Gates.{day_gate, closing_gate, handed_back};
-ghost use Rattle.twodays.specs.Permits.{GoodIn};
+ghost use Rattle.book.specs.Permits.{with_laid};
+ghost use Rattle.twodays.specs.Permits.{GoodIn, IsSpent, number_said, close_refusal};
+ghost use Rattle.book.specs.Closing.{settle_refusal};
 
 use book::book::Book;
 use book::permit::{ClosingPermit, DayPermit};
@@ -95,21 +97,27 @@ pub fn deliver(book: &mut Book, permit: DayPermit, place: u64, price: u64) -> St
     handed_back(book.set_delivery_price(permit, place, price))
 }
 
-// Spends a permit that is not needed any more.
+// Spends a permit that is not needed any more: the book notes it, and is otherwise as it was.
 pub fn put_away(book: &mut Book, permit: DayPermit)
     requires { day_gate book.old.desk book.old.ledger.state permit ≡ None }
+    ensures desk { book.new.desk ≡ with_laid book.old.desk true }
+    ensures ledger { book.new.ledger.state ≡ book.old.ledger.state }
 {
     book.lay_down_day(permit).unwrap()
 }
 
 fn put_away_closing(book: &mut Book, permit: ClosingPermit)
     requires { closing_gate book.old.desk book.old.ledger.state permit ≡ None }
+    ensures desk { book.new.desk ≡ with_laid book.old.desk true }
+    ensures ledger { book.new.ledger.state ≡ book.old.ledger.state }
 {
     book.lay_down_closing(permit).unwrap()
 }
 
 fn settle(book: &mut Book, archive: &mut [u8], permit: ClosingPermit) -> u8
     requires { closing_gate book.old.desk book.old.ledger.state permit ≡ None }
+    ensures answer { result ≡ number_said (settle_refusal book.old.desk book.old.ledger.state (length archive.old) permit) }
+    ensures spent { IsSpent book.new.desk book.new.ledger.state result }
 {
     match book.settle(permit, archive, &Freight, &BothSides) {
         Ok(()) => 0,
@@ -120,9 +128,11 @@ fn settle(book: &mut Book, archive: &mut [u8], permit: ClosingPermit) -> u8
     }
 }
 
-// Ends the day and settles it.
+// Ends the day and settles it. Where either is refused, the permit that is out then is laid down.
 pub fn close(book: &mut Book, archive: &mut [u8], permit: DayPermit, rate: u64) -> u8
     requires { day_gate book.old.desk book.old.ledger.state permit ≡ None }
+    ensures answer { result ≡ number_said (close_refusal book.old.desk book.old.ledger.state (length archive.old) permit rate) }
+    ensures spent { IsSpent book.new.desk book.new.ledger.state result }
 {
     match book.end_day(permit, rate) {
         Ok(permit) => settle(book, archive, permit),
