@@ -1,6 +1,6 @@
 -- Laws of chains, and of the slots where they begin.
 use Rattle.std.proofs.Common.{◌≡◌, ℕ, zero, suc, ◌+◌, ◌-◌, ◌*◌, ◌<◌, ◌≤◌, true, ◌&&◌, eqb, ltb, List, [], length, Some, None, Ok, Err, Option, Result, sym, refl, ap, ◌∙◌, ⊎_elim, arith}
-use Rattle.std.proofs.lemmas.Bool.{and_parts, ltb-true, eq-eqb, ne_eqb, cond-true, cond-false, cases_Bool}
+use Rattle.std.proofs.lemmas.Bool.{and_parts, ltb-true, eqb-true, eq-eqb, ne_eqb, cond-true, cond-false, cases_Bool}
 use Rattle.std.proofs.lemmas.Bool.Decides.{nat_tests}
 use Rattle.refusal.specs.declared.Refusal.{Refusal}
 use Rattle.refusal.specs.declared.Refusal.TheVariants.{BrokenChain}
@@ -69,6 +69,9 @@ pub last_here : (at : ℕ → Slot) (a n : ℕ) → 0 < n → (at n).account ≡
 unfolding last
 last_here at a zero p h = absurd (omega arith)
 last_here at a (suc n) p h = cond-true _ _ _ (eq-eqb _ _ h)
+
+pub last_named : (at : ℕ → Slot) (a n : ℕ) → 0 < n → eqb (at n).account a ≡ true → last at a n ≡ n
+last_named at a n p h = last_here at a n p (eqb-true _ _ h)
 
 pub last_below : (at : ℕ → Slot) (a n : ℕ) → 0 < n → ((at n).account ≡ a → ⊥) → last at a n ≡ last at a (n - 1)
 unfolding last

@@ -1,16 +1,13 @@
 -- Links gathered from the front of a chain.
-use Rattle.std.proofs.Common.{◌≡◌, ℕ, ◌+◌, ◌<◌, List, [], ◌∷◌, ◌++◌, length, get_or, drop, ℤ, pos, ◌+ℤ◌, Ok, Err, Option, Result, Vec, sym, refl, ap, ◌∙◌, subst, w64, SFits}
+use Rattle.std.proofs.Common.{◌≡◌, ℕ, ◌+◌, ◌<◌, List, [], ◌∷◌, ◌++◌, length, get_or, drop, ℤ, pos, ◌+ℤ◌, Ok, Err, Option, Result, sym, refl, ap, ◌∙◌, subst, w64, SFits}
 use Rattle.std.proofs.lemmas.List.{at_drop_more}
 use Rattle.std.specs.Result.{OkIff, result_ok}
-use Rattle.std.specs.declared.alloc.Global.{Global}
 use Rattle.std.specs.declared.num.TryFromIntError.{TryFromIntError}
 use Rattle.refusal.specs.declared.Refusal.{Refusal}
-use Rattle.archive.specs.declared.chain.ChainError.{ChainError}
-use Rattle.archive.specs.declared.chain.ChainError.TheVariants.{Refused, NoMemory}
 use Rattle.archive.specs.declared.entry.Kind.TheVariants.{PayIn}
 use Rattle.archive.specs.declared.entry.Link.{Link}
 use Rattle.archive.specs.Chain.{before}
-use Rattle.archive.specs.Gathered.{Gathered, changes, Summed}
+use Rattle.archive.specs.Gathered.{changes, Summed}
 
 -- The links, and after them what a chain still gives.
 abbrev pub onto : List Link → Result (List Link) Refusal → Result (List Link) Refusal
@@ -28,12 +25,6 @@ onto_end (x ∷ ls) = ap (before x) (onto_end ls)
 pub onto_refused : (ls : List Link) (w : Refusal) → onto ls (Err w) ≡ Err w
 onto_refused [] w = refl
 onto_refused (x ∷ ls) w = ap (before x) (onto_refused ls w)
-
--- The same chain under another name, and what is known where memory fails.
-pub gathered_as : (c d : Result (List Link) Refusal) (P Q : Type 0) (r : Result (Vec Link Global) ChainError) → d ≡ c → (P → Q) → Gathered c P r → Gathered d Q r
-gathered_as c d P Q (Ok v) e f h = e ∙ h
-gathered_as c d P Q (Err (Refused w)) e f h = e ∙ h
-gathered_as c d P Q (Err NoMemory) e f h = f h
 
 -- What an index past the end reads.
 abbrev pub blank : Link

@@ -1,13 +1,16 @@
 -- What is read back from patched bytes: the slot that was written, and every other slot as it was.
-use Rattle.std.proofs.Common.{◌≡◌, ℕ, ◌+◌, ◌*◌, ◌/◌, ◌%◌, ◌^◌, ◌<◌, ◌≤◌, ◌⊎◌, List, length, get_or, ℤ, Some, refl, ap, ◌∙◌, inl, inr, ⊎_elim, add-zero, arith, w64, SFits, to_z, of_z, rules}
+use Rattle.std.proofs.Common.{◌≡◌, ℕ, ◌+◌, ◌*◌, ◌/◌, ◌%◌, ◌^◌, ◌<◌, ◌==◌, ◌&&◌, ◌≤◌, ◌⊎◌, List, [], ◌∷◌, length, get_or, ℤ, Some, refl, ap, ◌∙◌, inl, inr, ⊎_elim, add-zero, arith, slice_range, SFits, to_z, of_z, rules}
 use lib.Arith.{mod-mul}
+use Rattle.std.specs.Int.{w16, w32, w64, from_be_bytes}
 use Rattle.std.proofs.lemmas.List.{places}
+use Rattle.std.specs.List.{list_all}
 use Rattle.std.proofs.lemmas.Int.{to_z-of_z}
 use Rattle.archive.specs.declared.entry.Entry.{Entry}
 use Rattle.archive.specs.declared.entry.Kind.{Kind}
 use Rattle.archive.specs.declared.entry.Kind.TheVariants.{PayIn, PayOut, TradeFee, Settlement}
 use Rattle.archive.specs.declared.layout.Slot.{Slot}
 use Rattle.archive.specs.Kinds.{kind_byte, kind_of}
+use Rattle.archive.specs.Chain.{zeros}
 use Rattle.archive.specs.Layout.{be2, be4, be8, num2, num4, num8, encoded, slot_at, slot_of, with_kind, entry_of, patched}
 
 pub inside : (xs : List ℕ) (i n : ℕ) (bs : List ℕ) (j k : ℕ) → i ≤ length xs → j ≡ i + k → k < length bs → get_or (patched xs i n bs) j 0 ≡ get_or bs k 0
@@ -36,6 +39,25 @@ be8_back n h =
 
 signed_back : (z : ℤ) → SFits w64 z → to_z w64 (num8 (be8 (of_z w64 z)) 0) ≡ z
 signed_back z f = ap (to_z w64) (be8_back (of_z w64 z) (search rules)) ∙ to_z-of_z w64 z f
+
+-- A number is what its bytes say, cut out of the list.
+cut : (xs : List ℕ) (i n k : ℕ) → i + n ≤ length xs → k < n → get_or (slice_range xs i (i + n)) k 0 ≡ get_or xs (i + k) 0
+cut xs i n k l h = search (rules, places)
+
+pub num2_cut : (xs : List ℕ) (i : ℕ) → i + 2 ≤ length xs → from_be_bytes w16 (slice_range xs i (i + 2)) ≡ num2 xs i
+num2_cut xs i l =
+    let first : get_or (slice_range xs i (i + 2)) 0 0 ≡ get_or xs i 0 = simp add-zero at (cut xs i 2 0 l (omega arith)) in
+    omega (arith, first, cut xs i 2 1 l (omega arith))
+
+pub num4_cut : (xs : List ℕ) (i : ℕ) → i + 4 ≤ length xs → from_be_bytes w32 (slice_range xs i (i + 4)) ≡ num4 xs i
+num4_cut xs i l =
+    let first : get_or (slice_range xs i (i + 4)) 0 0 ≡ get_or xs i 0 = simp add-zero at (cut xs i 4 0 l (omega arith)) in
+    omega (arith, first, cut xs i 4 1 l (omega arith), cut xs i 4 2 l (omega arith), cut xs i 4 3 l (omega arith))
+
+pub num8_cut : (xs : List ℕ) (i : ℕ) → i + 8 ≤ length xs → from_be_bytes w64 (slice_range xs i (i + 8)) ≡ num8 xs i
+num8_cut xs i l =
+    let first : get_or (slice_range xs i (i + 8)) 0 0 ≡ get_or xs i 0 = simp add-zero at (cut xs i 8 0 l (omega arith)) in
+    omega (arith, first, cut xs i 8 1 l (omega arith), cut xs i 8 2 l (omega arith), cut xs i 8 3 l (omega arith), cut xs i 8 4 l (omega arith), cut xs i 8 5 l (omega arith), cut xs i 8 6 l (omega arith), cut xs i 8 7 l (omega arith))
 
 -- Two lists that hold the same bytes from places i and j on, as many as a number has, hold the same number there.
 abbrev pub Alike : List ℕ → ℕ → List ℕ → ℕ → ℕ → Type 0
@@ -125,3 +147,8 @@ known Settlement = refl
 -- The entry of a slot that was made from it.
 pub entry_back : (e : Entry) → entry_of (slot_of e) ≡ Some e
 entry_back e = ap (with_kind (slot_of e)) (known e.kind)
+
+-- The bytes are zeros where each of them is.
+pub all_zeros : (bs : List ℕ) → list_all (λ b. b == 0) bs ≡ zeros bs
+all_zeros [] = refl
+all_zeros (b ∷ bs) = ap (λ t. b == 0 && t) (all_zeros bs)

@@ -1,17 +1,39 @@
--- A walk along a chain in search of its k-th entry keeps the answer.
-use Rattle.std.proofs.Common.{◌≡◌, ℕ, zero, suc, ◌-◌, ◌<◌, ◌≤◌, false, cond, eqb, List, [], ◌∷◌, Some, None, Ok, Err, Option, Result, sym, refl, ap, ◌∙◌, ⊎_elim, arith}
+-- A walk along a chain: where it starts, and that the search on it for the k-th entry keeps the answer.
+use Rattle.std.proofs.Common.{◌≡◌, ℕ, zero, suc, ◌+◌, ◌-◌, ◌*◌, ◌<◌, ◌≤◌, cond, eqb, List, [], ◌∷◌, length, Some, None, Ok, Err, Option, Result, sym, refl, ap, ◌∙◌, subst, ⊎_elim, arith}
 use Rattle.std.proofs.lemmas.Bool.{eqb-true, eqb-false, cond-true, cond-false, cases_Bool}
 use Rattle.refusal.specs.declared.Refusal.{Refusal}
-use Rattle.refusal.specs.declared.Refusal.TheVariants.{BrokenChain}
+use Rattle.refusal.specs.Reasons.{answered}
 use Rattle.archive.specs.declared.entry.Entry.{Entry}
 use Rattle.archive.specs.declared.entry.Link.{Link}
-use Rattle.archive.specs.declared.layout.Slot.{Slot}
-use Rattle.archive.specs.declared.read.Walk.{Walk}
-use Rattle.archive.specs.Chain.{entry_on, link, before, chain_from, kth, picked}
-use Rattle.archive.specs.Walks.{walk_from, walked}
-use Rattle.archive.proofs.Chains.{on_chain, chain_on, chain_broken, chain_end}
+use Rattle.archive.specs.Layout.{slot_at, used_in}
+use Rattle.archive.specs.Chain.{last, before, chain_from, reader_refusal, chain_of, kth, picked}
+use Rattle.archive.specs.Gathered.{Holds}
+use Rattle.archive.proofs.Chains.{last_le, accepted_account, readable, chain_read, chain_refused}
 
--- What a walk answers that has found f and has k entries to go.
+accepts : (o : Option Refusal) → answered o ≡ Ok tt → o ≡ None
+accepts None h = refl
+accepts (Some w) h = let z : ◌≡◌ {A = ℕ} 0 1 = cc in absurd (omega arith)
+
+refuses : (o : Option Refusal) (w : Refusal) → answered o ≡ Err w → o ≡ Some w
+refuses None w h = let z : ◌≡◌ {A = ℕ} 0 1 = cc in absurd (omega arith)
+refuses (Some v) w h = cc
+
+-- What the reader refuses has no chain.
+pub unopened : (xs : List ℕ) (a : ℕ) (w : Refusal) → Err w ≡ answered (reader_refusal xs a) → chain_of xs a ≡ Err w
+unopened xs a w h = chain_refused xs a w (refuses _ w (sym h))
+
+-- The chain begins at the newest slot, inside the bytes.
+pub newest_within : (xs : List ℕ) (a n u : ℕ) → Ok tt ≡ answered (reader_refusal xs a) → u ≡ used_in xs → n ≡ last (slot_at xs) a u → 32 * n + 32 ≤ length xs
+newest_within xs a n u h e is = omega (arith, (readable xs a (accepts _ (sym h))).1, last_le (slot_at xs) a u)
+
+pub opened : (xs : List ℕ) (a n u : ℕ) → Ok tt ≡ answered (reader_refusal xs a) → u ≡ used_in xs → n ≡ last (slot_at xs) a u → (chain_from (slot_at xs) a n ≡ chain_of xs a) × (0 < n → Holds xs a)
+opened xs a n u h e is =
+    let none = accepts _ (sym h) in
+    let top = is ∙ ap (last (slot_at xs) a) e in
+    let known = accepted_account xs a none in
+    (ap (chain_from (slot_at xs) a) top ∙ sym (chain_read xs a none), λ some. (known.0, known.1, subst (λ m. 0 < m) top some))
+
+-- What a search answers that has found f and has k entries to go.
 abbrev pub found_or : Option Entry → Option Entry → Option Entry
 found_or None o = o
 found_or (Some e) o = Some e
@@ -48,7 +70,7 @@ past l f k (Ok ls) h = ap (λ o. Ok (found_or f o)) (kth_past l ls k h)
 past l f k (Err w) h = refl
 
 -- The entry looked for lies at this link, or beyond it: what is found and how far is left then.
-at_link : (l : Link) (f : Option Entry) (k : ℕ) (r : Result (List Link) Refusal) → (0 < k → f ≡ None) → onward (cond (eqb k 1) (Some l.entry) f) (k - 1) r ≡ onward f k (before l r)
+pub at_link : (l : Link) (f : Option Entry) (k : ℕ) (r : Result (List Link) Refusal) → (0 < k → f ≡ None) → onward (cond (eqb k 1) (Some l.entry) f) (k - 1) r ≡ onward f k (before l r)
 at_link l f k r n =
     ⊎_elim
     (λ t. let one : k ≡ 1 = eqb-true k 1 t in
@@ -57,38 +79,9 @@ at_link l f k r n =
     (cases_Bool (eqb k 1))
 
 -- Nothing is found before the entry looked for.
-unfound : (f : Option Entry) (e : Entry) (k : ℕ) → (0 < k → f ≡ None) → 0 < k - 1 → cond (eqb k 1) (Some e) f ≡ None
+pub unfound : (f : Option Entry) (e : Entry) (k : ℕ) → (0 < k → f ≡ None) → 0 < k - 1 → cond (eqb k 1) (Some e) f ≡ None
 unfound f e k n h =
     ⊎_elim
     (λ t. let one : k ≡ 1 = eqb-true k 1 t in absurd (omega arith))
     (λ t. cond-false _ _ _ t ∙ n (omega arith))
     (cases_Bool (eqb k 1))
-
--- What a walk has left to follow gives the answer that the whole chain gives.
-abbrev pub Keeps : (ℕ → Slot) → ℕ → ℕ → ℕ → Walk → Type 0
-Keeps at a top k w =
-    (w.slot ≤ top) × (0 < w.left → w.found ≡ None)
-    × (onward w.found w.left (chain_from at a w.slot) ≡ picked (chain_from at a top) k)
-
--- A walk that has not ended stands at a slot.
-pub under_way : (s : ℕ) → false ≡ eqb s 0 → 0 < s
-under_way s h = let ne = eqb-false s 0 (sym h) in omega arith
-
-pub keeps_from : (at : ℕ → Slot) (a top k : ℕ) → Keeps at a top k (walk_from top k)
-keeps_from at a top k = (omega arith, λ _. refl, onward_start k (chain_from at a top))
-
-pub keeps_past : (at : ℕ → Slot) (a top k : ℕ) (w : Walk) (e : Entry) → 0 < w.slot → entry_on (at w.slot) a w.slot ≡ Some e → Keeps at a top k w → Keeps at a top k (walked w e)
-keeps_past at a top k w e p h inv =
-    let on = on_chain (at w.slot) a w.slot e h in
-    let low : e.next ≤ top = omega (arith, on.0, on.1, inv.0) in (
-      low,
-      unfound w.found e w.left inv.1,
-      at_link (link w.slot e) w.found w.left (chain_from at a e.next) inv.1
-          ∙ sym (ap (onward w.found w.left) (chain_on at a w.slot e p h)) ∙ inv.2,
-    )
-
-pub keeps_broken : (at : ℕ → Slot) (a top k : ℕ) (w : Walk) → 0 < w.slot → entry_on (at w.slot) a w.slot ≡ None → Keeps at a top k w → Err BrokenChain ≡ picked (chain_from at a top) k
-keeps_broken at a top k w p h inv = sym (ap (onward w.found w.left) (chain_broken at a w.slot p h)) ∙ inv.2
-
-pub keeps_end : (at : ℕ → Slot) (a top k : ℕ) (w : Walk) → w.slot ≡ 0 → Keeps at a top k w → Ok w.found ≡ picked (chain_from at a top) k
-keeps_end at a top k w z inv = sym (onward_end w.found w.left) ∙ sym (ap (onward w.found w.left) (chain_end at a w.slot z)) ∙ inv.2

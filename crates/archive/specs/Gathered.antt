@@ -1,8 +1,9 @@
 -- A whole chain, and the sum of its changes, as programs ask for them.
-use Rattle.std.specs.Prelude.{◌≡◌, ℕ, ◌<◌, true, List, [], ◌∷◌, ℤ, pos, ◌+ℤ◌, Some, None, Ok, Err, vec_items, Option, Result, Vec, FitsSigned}
+use Rattle.std.specs.Prelude.{◌≡◌, ℕ, ◌<◌, true, List, [], ◌∷◌, ◌++◌, ℤ, pos, ◌+ℤ◌, Some, None, Ok, Err, vec_items, Option, Result, Vec, FitsSigned, codes, decimal}
 use Rattle.std.specs.Int.{w64}
 use Rattle.std.specs.declared.alloc.Global.{Global}
 use Rattle.refusal.specs.declared.Refusal.{Refusal}
+use Rattle.refusal.specs.Numbered.{number_of}
 use Rattle.archive.specs.declared.chain.ChainError.{ChainError}
 use Rattle.archive.specs.declared.chain.ChainError.TheVariants.{Refused, NoMemory}
 use Rattle.archive.specs.declared.entry.Link.{Link}
@@ -13,6 +14,11 @@ abbrev pub Gathered : Result (List Link) Refusal → Type 0 → Result (Vec Link
 Gathered c some (Ok v) = c ≡ Ok (vec_items v)
 Gathered c some (Err (Refused w)) = c ≡ Err w
 Gathered c some (Err NoMemory) = some
+
+-- What is said where there is no chain: the refusal by its number, or that memory ran out.
+abbrev pub error_text : ChainError → List ℕ
+error_text (Refused w) = codes "refused " ++ decimal (number_of w)
+error_text NoMemory = codes "out of memory"
 
 -- The bytes are an archive that names account a in a used slot.
 abbrev pub Holds : List ℕ → ℕ → Type 0

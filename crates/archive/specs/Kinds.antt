@@ -1,7 +1,8 @@
 -- The kinds of entries: the byte of each and its name (docs/ARCHIVE.md, "Kinds").
-use Rattle.std.specs.Prelude.{ℕ, cond, List, Some, None, codes, Option, ◌==◌}
+use Rattle.std.specs.Prelude.{ℕ, cond, List, Some, None, codes, Option, Result, ok_or, ◌==◌}
 use Rattle.archive.specs.declared.entry.Kind.{Kind}
 use Rattle.archive.specs.declared.entry.Kind.TheVariants.{PayIn, PayOut, TradeFee, Settlement}
+use Rattle.archive.specs.declared.entry.UnknownKind.{UnknownKind}
 
 abbrev pub kind_byte : Kind → ℕ
 kind_byte PayIn = 1
@@ -16,6 +17,10 @@ kind_of b =
     (cond (b == 2) (Some PayOut)
     (cond (b == 3) (Some TradeFee)
     (cond (b == 4) (Some Settlement) None)))
+
+-- The same, with the byte itself where it stands for none.
+abbrev pub kind_from : ℕ → Result Kind UnknownKind
+kind_from b = ok_or (kind_of b) (record { 0 = b })
 
 abbrev pub kind_name : Kind → List ℕ
 kind_name PayIn = codes "pay-in"

@@ -1,9 +1,10 @@
 -- Where each number lies in a slot of 32 bytes, and what a written slot leaves of the rest (docs/ARCHIVE.md).
-use Rattle.std.specs.Prelude.{ℕ, ◌+◌, ◌*◌, ◌/◌, ◌%◌, Bool, ◌&&◌, List, [], ◌∷◌, ◌++◌, take, drop, replicate, Some, None, Option, ◌==◌, nat_le, slice_index}
+use Rattle.std.specs.Prelude.{ℕ, ◌+◌, ◌*◌, ◌/◌, ◌%◌, Bool, ◌&&◌, List, [], ◌∷◌, ◌++◌, take, drop, replicate, Some, None, Option, Result, ok_or, ◌==◌, nat_le, slice_index}
 use Rattle.std.proofs.Common.{to_z, of_z}
 use Rattle.std.specs.Int.{w64}
 use Rattle.archive.specs.declared.entry.Entry.{Entry}
 use Rattle.archive.specs.declared.entry.Kind.{Kind}
+use Rattle.archive.specs.declared.entry.UnknownKind.{UnknownKind}
 use Rattle.archive.specs.declared.layout.Slot.{Slot}
 use Rattle.archive.specs.Kinds.{kind_byte, kind_of}
 
@@ -80,6 +81,10 @@ with_kind x (Some k) = Some (record {
 
 abbrev pub entry_of : Slot → Option Entry
 entry_of x = with_kind x (kind_of x.kind)
+
+-- The same, with the byte of its kind where that is unknown.
+abbrev pub entry_from : Slot → Result Entry UnknownKind
+entry_from x = ok_or (entry_of x) (record { 0 = x.kind })
 
 -- Slot 0: the entries used, the book's number, and zeros.
 unfoldable pub header : ℕ → ℕ → List ℕ

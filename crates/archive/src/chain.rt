@@ -1,59 +1,62 @@
 // An account's whole chain in one pass, for programs that print or sum it.
-ghost use Rattle.std.specs.Prelude.{◌≡◌, ℕ, ◌+◌, ◌-◌, ◌*◌, ◌^◌, ◌<◌, ◌≤◌, length, pos, ◌+ℤ◌, neg_ℤ, ◌≤ℤ◌};
-ghost use Rattle.archive.specs.Layout.{slot_at};
-ghost use Rattle.archive.specs.Chain.{link, chain_from, chain_of};
-ghost use Rattle.archive.specs.Gathered.{Gathered, Holds, changes, Summed};
+ghost use Rattle.std.specs.Prelude.{◌≡◌, ◌-◌, ◌^◌, pos, ◌+ℤ◌, neg_ℤ, ◌≤ℤ◌, Some};
+ghost use Rattle.archive.specs.Chain.{chain_of};
+ghost use Rattle.archive.specs.Gathered.{Gathered, Holds, changes, Summed, error_text};
+ghost use Rattle.archive.specs.declared.chain.ChainError.TheVariants.{Refused, NoMemory};
 
-use crate::entry::{Entry, Link};
-use crate::layout::four;
-use crate::read::{entry_at, last_slot, refusal_of};
+use crate::entry::Link;
+use crate::links::Links;
 use refusal::Refusal;
-use std::alloc::Global;
+use std::alloc::{AllocFailed, Global};
+use std::error::Error;
+use std::fmt;
 
 // Why a chain is not in memory.
-#[derive(Clone, Copy)]
+#[derive(Clone, Copy, Debug, PartialEq, Eq)]
 pub enum ChainError {
     Refused(Refusal),
     NoMemory,
 }
 
-fn link_at(slot: usize, entry: Entry) -> Link
-    requires { slot < 2 ^ 32 }
-    ensures { result ≡ link slot entry }
-{
-    Link {
-        slot: slot as u32,
-        entry,
+impl From<Refusal> for ChainError {
+    ghost from_gives = { λ refusal error. error ≡ Refused refusal };
+
+    fn from(refusal: Refusal) -> Self {
+        Self::Refused(refusal)
     }
 }
 
-fn gather(heap: Global, archive: &[u8], account: u64, top: usize) -> Result<Vec<Link>, ChainError>
-    requires { (32 * top + 32 ≤ length archive.now) × (top < 2 ^ 32) }
-    ensures { Gathered (chain_from (slot_at archive.now) account top) (0 < top) result }
-{
-    let mut links = Vec::new(heap);
-    let mut slot = top;
-    while slot > 0 {
-        let Some(entry) = entry_at(archive, account, slot) else {
-            return Err(ChainError::Refused(Refusal::BrokenChain));
-        };
-        if links.push(link_at(slot, entry)).is_err() {
-            return Err(ChainError::NoMemory);
-        }
-        slot = entry.next as usize;
+impl<T: Drop> From<AllocFailed<T>> for ChainError {
+    ghost from_gives = { λ _ error. error ≡ NoMemory };
+
+    fn from(_failed: AllocFailed<T>) -> Self {
+        Self::NoMemory
     }
-    Ok(links)
 }
+
+impl fmt::Display for ChainError {
+    ghost output = { λ error. Some (error_text error) };
+
+    fn fmt<W: fmt::Write>(&self, f: &mut fmt::Formatter<W>) -> fmt::Result {
+        match self {
+            ChainError::Refused(refusal) => write!(f, "{refusal}"),
+            ChainError::NoMemory => write!(f, "out of memory"),
+        }
+    }
+}
+
+impl Error for ChainError {}
 
 // The account's chain, newest first.
+#[tactic(auto, using(crate::proofs::Gathering::onto_more, crate::proofs::Gathering::onto_end, crate::proofs::Gathering::onto_refused))]
 pub fn chain(heap: Global, archive: &[u8], account: u64) -> Result<Vec<Link>, ChainError>
     ensures { Gathered (chain_of archive.now account) (Holds archive.now account) result }
 {
-    if let Some(refusal) = refusal_of(archive, account) {
-        return Err(ChainError::Refused(refusal));
+    let mut links = Vec::new(heap);
+    for link in Links::open(archive, account)? {
+        links.push(link?)?;
     }
-    let top = last_slot(archive, four(archive, 0) as usize, account);
-    gather(heap, archive, account, top)
+    Ok(links)
 }
 
 // Sums of fewer than 2^64 changes stay inside 128 bits.
@@ -70,6 +73,7 @@ pub fn sum_of_changes(links: &[Link]) -> Option<i64>
     ensures { Summed (changes links.now) result }
 {
     let mut sum: i128 = 0;
+    // no `sum()` or `fold` here: that the sum stays inside 128 bits is known only of each step
     for link in links {
         sum = plus(sum, link.entry.change);
     }

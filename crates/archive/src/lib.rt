@@ -4,5 +4,6 @@
 pub mod chain;
 pub mod entry;
 mod layout;
+mod links;
 pub mod read;
 pub mod write;

@@ -19,9 +19,10 @@ pub const MAX_SLOTS: usize = 262_144;
 pub fn is_allowed(bytes: usize) -> bool
     ensures { result ≡ allowed bytes }
 {
-    bytes % SLOT_BYTES == 0 && bytes / SLOT_BYTES >= MIN_SLOTS && bytes / SLOT_BYTES <= MAX_SLOTS
+    bytes % SLOT_BYTES == 0 && (MIN_SLOTS..=MAX_SLOTS).contains(&(bytes / SLOT_BYTES))
 }
 
+#[tactic(auto, using(std::proofs::lemmas::Slice::overwrites))]
 fn put(archive: &mut [u8], at: usize, bytes: &[u8])
     requires { at + length bytes.now ≤ length archive.old }
     ensures { archive.new ≡ patched archive.old at (length bytes.now) bytes.now }
@@ -29,6 +30,7 @@ fn put(archive: &mut [u8], at: usize, bytes: &[u8])
     archive[at..at + bytes.len()].copy_from_slice(bytes);
 }
 
+// Apart from `begin`: in one function, `using(begin_empties)` or `using(begun_empty)` left the clause `empty` open.
 fn put_header(archive: &mut [u8], book: u16) -> Result<(), Refusal>
     ensures answer { result ≡ answered (begin_refusal (length archive.old) book) }
     ensures bytes { archive.new ≡ begun (begin_refusal (length archive.old) book) archive.old book }
@@ -43,6 +45,7 @@ fn put_header(archive: &mut [u8], book: u16) -> Result<(), Refusal>
     Ok(())
 }
 
+// Apart from `append`: in one function, `using(append_stores, append_grows)` left the clauses `stored` and `grown` open.
 fn put_entry(archive: &mut [u8], used: u32, entry: Entry) -> Result<(), Refusal>
     ensures answer { result ≡ answered (append_refusal (length archive.old) used) }
     ensures bytes { archive.new ≡ appended (append_refusal (length archive.old) used) archive.old used entry }
@@ -54,7 +57,7 @@ fn put_entry(archive: &mut [u8], used: u32, entry: Entry) -> Result<(), Refusal>
     if archive.len() / SLOT_BYTES <= slot {
         return Err(Refusal::NoRoom);
     }
-    put(archive, SLOT_BYTES * slot, &Slot::of(entry).bytes());
+    put(archive, SLOT_BYTES * slot, &Slot::from(entry).bytes());
     put(archive, 0, &(used + 1).to_be_bytes());
     Ok(())
 }

@@ -1,5 +1,5 @@
+pub mod Answering
 pub mod Entering
-pub mod Founded
 pub mod Staged
 pub mod Striking
 pub mod Keeping

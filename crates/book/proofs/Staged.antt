@@ -1,5 +1,5 @@
 -- What a call of the ledger does to its stage, and so to the slots that are kept free.
-use Rattle.std.proofs.Common.{◌≡◌, ℕ, ◌-◌, true, false, Some, None, Option, sym, refl, ap, ◌∙◌}
+use Rattle.std.proofs.Common.{◌≡◌, ℕ, ◌-◌, true, false, Some, None, Option, sym, refl, ◌∙◌}
 use Rattle.std.proofs.lemmas.Bool.{not-false, false≢true}
 use Rattle.refusal.specs.declared.Refusal.{Refusal}
 use Rattle.refusal.proofs.Passed.{passed}
@@ -15,12 +15,6 @@ use Rattle.ledger.specs.Places.{is_resting, is_open, place_at}
 use Rattle.ledger.specs.Quotes.{quote_state, deliver_state, quoted, delivered_at}
 use Rattle.book.specs.declared.desk.Desk.{Desk}
 use Rattle.book.specs.Held.{RoomIn, RestIn}
-
-pub same_stage : (d : Desk) (s u : State) → u.stage ≡ s.stage → RoomIn d s → RoomIn d u
-same_stage d s u same room busy = room (sym (ap is_resting same) ∙ busy)
-
-pub same_rest : (d : Desk) (s u : State) → u.stage ≡ s.stage → RestIn d s → RestIn d u
-same_rest d s u same rest quiet = rest (sym (ap is_resting same) ∙ quiet)
 
 pub list_stage : (o : Option Refusal) (s : State) (l : Listing) → (list_state o s l).stage ≡ s.stage
 list_stage None s l = refl
@@ -66,3 +60,7 @@ close_room d s rate room = go (close_refusal s rate) refl
 pub close_rest : (d : Desk) (s : State) (o : Option Refusal) (rate : ℕ) → RestIn d s → RestIn d (close_state o s rate)
 close_rest d s None rate rest quiet = absurd (false≢true quiet)
 close_rest d s (Some w) rate rest quiet = rest quiet
+
+-- While a book rests no slot need be free.
+pub resting_room : (d : Desk) (s : State) → is_resting s.stage ≡ true → RoomIn d s
+resting_room d s rests busy = absurd (false≢true (sym busy ∙ rests))

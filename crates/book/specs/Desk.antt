@@ -34,6 +34,26 @@ is_closing Rests = false
 is_closing Day = false
 is_closing Closing = true
 
+abbrev pub is_idle : Phase → Bool
+is_idle Idle = true
+is_idle Rests = false
+is_idle Day = false
+is_idle Closing = false
+
+-- Whether a phase, the second, is the one that is asked for.
+abbrev pub is_phase : Phase → Phase → Bool
+is_phase Idle phase = is_idle phase
+is_phase Rests phase = is_resting_phase phase
+is_phase Day phase = is_day phase
+is_phase Closing phase = is_closing phase
+
+-- A book works from day to settle: a permit of it is about then.
+abbrev pub is_working : Phase → Bool
+is_working Idle = false
+is_working Rests = false
+is_working Day = true
+is_working Closing = true
+
 -- The archive's length is not founding's, or while idle not allowed.
 abbrev pub wrong_length : Desk → ℕ → Bool
 wrong_length d n = cond d.founded (not (n == 32 * d.slots)) (not (allowed n))

@@ -6,9 +6,10 @@ use Rattle.refusal.specs.declared.Refusal.TheVariants.{ArchiveLength, WrongPhase
 use Rattle.refusal.specs.Reasons.{first}
 use Rattle.ledger.specs.declared.state.State.{State}
 use Rattle.book.specs.declared.desk.Desk.{Desk}
+use Rattle.book.specs.declared.desk.Phase.{Phase}
 use Rattle.book.specs.declared.permit.DayPermit.{DayPermit}
 use Rattle.book.specs.declared.permit.ClosingPermit.{ClosingPermit}
-use Rattle.book.specs.Desk.{phase_of, is_resting_phase, is_day, is_closing, wrong_length, foreign}
+use Rattle.book.specs.Desk.{phase_of, is_resting_phase, is_day, is_closing, is_phase, wrong_length, foreign}
 
 -- The first gate's refusal, else the second's.
 abbrev pub or_else : Option Refusal → Option Refusal → Option Refusal
@@ -49,6 +50,19 @@ entry_gate d s n p = first ((wrong_length d n, ArchiveLength) ∷ day_reasons d 
 
 abbrev pub settle_gate : Desk → State → ℕ → ClosingPermit → Option Refusal
 settle_gate d s n p = first ((wrong_length d n, ArchiveLength) ∷ closing_reasons d s p)
+
+-- The two gates of a permit of either kind, which is good in a phase and names a book and a day.
+abbrev pub permit_reasons : Phase → Desk → State → ℕ → ℕ → List (Bool × Refusal)
+permit_reasons phase d s book day =
+    (not (is_phase phase (phase_of d s.stage)) || d.laid, WrongPhase)
+    ∷ (foreign d s.day book day, ForeignPermit)
+    ∷ []
+
+abbrev pub permit_gate : Phase → Desk → State → ℕ → ℕ → Option Refusal
+permit_gate phase d s book day = first (permit_reasons phase d s book day)
+
+abbrev pub archive_gate : Phase → Desk → State → ℕ → ℕ → ℕ → Option Refusal
+archive_gate phase d s n book day = first ((wrong_length d n, ArchiveLength) ∷ permit_reasons phase d s book day)
 
 -- A permit that is handed back whatever the answer.
 abbrev pub handed_back : {P : Type 0} → P → Option Refusal → Result P (P × Refusal)

@@ -5,9 +5,10 @@ use Rattle.refusal.specs.declared.Refusal.TheVariants.{WrongPhase}
 use Rattle.refusal.specs.Reasons.{first}
 use Rattle.ledger.specs.declared.state.State.{State}
 use Rattle.book.specs.declared.desk.Desk.{Desk}
+use Rattle.book.specs.declared.desk.Phase.{Phase}
 use Rattle.book.specs.declared.permit.DayPermit.{DayPermit}
 use Rattle.book.specs.declared.permit.ClosingPermit.{ClosingPermit}
-use Rattle.book.specs.Desk.{phase_of, is_day, is_closing}
+use Rattle.book.specs.Desk.{phase_of, is_day, is_closing, is_phase}
 
 abbrev pub with_laid : Desk → Bool → Desk
 with_laid d laid = record { founded = d.founded; number = d.number; slots = d.slots; used = d.used; laid = laid; tips = d.tips; settled = d.settled }
@@ -23,6 +24,10 @@ take_up_day_refusal d s = first ((not (is_day (phase_of d s.stage)) || not d.lai
 
 abbrev pub take_up_closing_refusal : Desk → State → Option Refusal
 take_up_closing_refusal d s = first ((not (is_closing (phase_of d s.stage)) || not d.laid, WrongPhase) ∷ [])
+
+-- The same of a permit of either kind.
+abbrev pub take_up_refusal : Phase → Desk → State → Option Refusal
+take_up_refusal phase d s = first ((not (is_phase phase (phase_of d s.stage)) || not d.laid, WrongPhase) ∷ [])
 
 -- The permits of a book and its day.
 abbrev pub day_permit : Desk → State → DayPermit

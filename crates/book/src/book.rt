@@ -11,6 +11,7 @@ pub mod closing_permit;
 pub mod day_permit;
 pub mod founding;
 mod gates;
+mod laying;
 pub mod questions;
 pub mod resting;
 pub mod trading;

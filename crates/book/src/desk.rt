@@ -1,7 +1,7 @@
 // What a book keeps beside its ledger: its number, its place in the archive, and whether its permit is laid down
 // (docs/RULES.md, "The book's own figures").
 ghost use Rattle.std.specs.Prelude.{◌≡◌, ℕ};
-ghost use Rattle.book.specs.Desk.{phase_of, is_resting_phase, is_day, is_closing, wrong_length, foreign, free_slots, has_room};
+ghost use Rattle.book.specs.Desk.{phase_in, phase_of, wrong_length, free_slots, has_room};
 
 use archive::write::{SLOT_BYTES, is_allowed};
 use ledger::state::{Settled, Stage};
@@ -9,7 +9,8 @@ use ledger::state::{Settled, Stage};
 // A settling writes one entry for each account.
 const KEPT_SLOTS: u64 = 32;
 
-#[derive(Clone, Copy)]
+// A stage of the ledger, or none yet: one word for each, as the rules name them.
+#[derive(Clone, Copy, Debug, PartialEq, Eq)]
 pub enum Phase {
     Idle,
     Resting,
@@ -17,47 +18,33 @@ pub enum Phase {
     Closing,
 }
 
-#[derive(Clone, Copy)]
+#[derive(Clone, Copy, Debug, PartialEq, Eq)]
 pub struct Desk {
+    // no Option of number and slots: the definitions of book and law read this public record field by field, and after
+    // its gate each call would have to take the Option apart again
     pub founded: bool,
     pub number: u64,
     // of the archive, slot 0 among them
     pub slots: u32,
     // entries written so far
     pub used: u32,
-    // whether the permit of the phase is laid down
+    // whether the permit of the phase is laid down; a note alone, since a desk is copied and a permit must not be
     pub laid: bool,
-    // the slot of each account's latest entry, or 0
+    // the slot of each account's latest entry; 0 is what an entry's next says for none in the archive's format
     pub tips: [u32; 32],
     // the contracts of the last settling, by place
     pub settled: [Option<Settled>; 12],
 }
 
-impl Phase {
-    pub(crate) fn is_resting(self) -> bool
-        ensures { result ≡ is_resting_phase self }
-    {
-        match self {
-            Phase::Resting => true,
-            _ => false,
-        }
-    }
+impl From<Stage> for Phase {
+    ghost from_gives = { λ stage phase. phase ≡ phase_in stage };
 
-    pub(crate) fn is_day(self) -> bool
-        ensures { result ≡ is_day self }
-    {
-        match self {
-            Phase::Day => true,
-            _ => false,
-        }
-    }
-
-    pub(crate) fn is_closing(self) -> bool
-        ensures { result ≡ is_closing self }
-    {
-        match self {
-            Phase::Closing => true,
-            _ => false,
+    // Of a founded book.
+    fn from(stage: Stage) -> Phase {
+        match stage {
+            Stage::Resting => Phase::Resting,
+            Stage::Open => Phase::Day,
+            Stage::Closed => Phase::Closing,
         }
     }
 }
@@ -66,13 +53,10 @@ impl Desk {
     pub(crate) fn phase(&self, stage: Stage) -> Phase
         ensures { result ≡ phase_of self.now stage }
     {
-        if !self.founded {
-            return Phase::Idle;
-        }
-        match stage {
-            Stage::Resting => Phase::Resting,
-            Stage::Open => Phase::Day,
-            Stage::Closed => Phase::Closing,
+        if self.founded {
+            stage.into()
+        } else {
+            Phase::Idle
         }
     }
 
@@ -87,13 +71,6 @@ impl Desk {
         }
     }
 
-    // A permit of another book or of another day.
-    pub(crate) fn rejects(&self, today: u64, book: u64, day: u64) -> bool
-        ensures { result ≡ foreign self.now today book day }
-    {
-        book != self.number || day != today
-    }
-
     // Slots that no entry has used; slot 0 is none of them.
     pub(crate) fn free(&self) -> u64
         ensures { result ≡ free_slots self.now }
@@ -105,9 +82,8 @@ impl Desk {
     pub(crate) fn has_room(&self, entries: u64) -> bool
         ensures { result ≡ has_room self.now entries }
     {
-        match self.free().checked_sub(KEPT_SLOTS) {
-            Some(rest) => entries <= rest,
-            None => false,
-        }
+        self.free()
+            .checked_sub(KEPT_SLOTS)
+            .is_some_and(|rest| entries <= rest)
     }
 }

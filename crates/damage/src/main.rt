@@ -4,11 +4,11 @@
 use archive::entry::{Entry, Kind};
 use archive::read::read;
 use archive::write::{append, begin};
-use refusal::Refusal;
-use std::alloc::{AllocError, Global};
+use refusal::said;
+use std::alloc::Global;
 
 // One byte put in another's place.
-#[derive(Clone, Copy)]
+#[derive(Clone, Copy, Debug, PartialEq, Eq)]
 struct Spoiled {
     name: &'static str,
     at: usize,
@@ -91,29 +91,23 @@ fn entry(next: u32, kind: Kind, account: u8, change: i64) -> Entry {
 }
 
 // An archive of 64 slots in memory that was not clean, with five entries of two accounts.
-fn sample(heap: Global) -> Result<Vec<u8>, AllocError> {
+fn sample(heap: Global) -> anyhow::Result<Vec<u8>> {
     let mut archive = vec![in heap; 0xAA; 2048]?;
     let slots = archive.as_mut_slice();
-    let _ = begin(slots, 7);
-    let _ = append(slots, 0, entry(0, Kind::PayIn, 1, 1_000_000));
-    let _ = append(slots, 1, entry(0, Kind::PayIn, 2, 1_000_000));
-    let _ = append(slots, 2, entry(1, Kind::TradeFee, 1, -200));
-    let _ = append(slots, 3, entry(2, Kind::TradeFee, 2, -200));
-    let _ = append(slots, 4, entry(3, Kind::Settlement, 1, 50));
+    begin(slots, 7)?;
+    append(slots, 0, entry(0, Kind::PayIn, 1, 1_000_000))?;
+    append(slots, 1, entry(0, Kind::PayIn, 2, 1_000_000))?;
+    append(slots, 2, entry(1, Kind::TradeFee, 1, -200))?;
+    append(slots, 3, entry(2, Kind::TradeFee, 2, -200))?;
+    append(slots, 4, entry(3, Kind::Settlement, 1, 50))?;
     Ok(archive)
 }
 
 fn say(rt: &HostRuntime, name: &str, archive: &[u8], account: u64, k: u64) -> anyhow::Result<()> {
     match read(archive, account, k) {
-        Ok(Some(found)) => {
-            let change = found.change;
-            println!(rt; "{name}: change {change}")?;
-        }
+        Ok(Some(found)) => println!(rt; "{name}: change {}", found.change)?,
         Ok(None) => println!(rt; "{name}: none")?,
-        Err(refusal) => {
-            let number = refusal.number();
-            println!(rt; "{name}: refused {number}")?;
-        }
+        Err(refusal) => println!(rt; "{name}: {refusal}")?,
     }
     Ok(())
 }
@@ -159,20 +153,12 @@ fn questions(rt: &HostRuntime, sound: &Vec<u8>) -> anyhow::Result<()> {
     say(rt, "account 0 of no archive", b"", 0, 1)
 }
 
-// What writing refuses, by its number; 0 where it is done.
-fn number(answer: Result<(), Refusal>) -> u8 {
-    match answer {
-        Ok(()) => 0,
-        Err(refusal) => refusal.number(),
-    }
-}
-
 fn writing(rt: &HostRuntime, sound: &mut Vec<u8>) -> anyhow::Result<()> {
-    let short = number(begin(&mut [0; 2016], 7));
-    let nameless = number(begin(sound.as_mut_slice(), 0));
-    let last = number(append(sound.as_mut_slice(), 62, entry(5, Kind::PayOut, 1, -1)));
-    let full = number(append(sound.as_mut_slice(), 63, entry(5, Kind::PayOut, 1, -1)));
-    let most = number(append(
+    let short = said(begin(&mut [0; 2016], 7));
+    let nameless = said(begin(sound.as_mut_slice(), 0));
+    let last = said(append(sound.as_mut_slice(), 62, entry(5, Kind::PayOut, 1, -1)));
+    let full = said(append(sound.as_mut_slice(), 63, entry(5, Kind::PayOut, 1, -1)));
+    let most = said(append(
         sound.as_mut_slice(),
         u32::MAX,
         entry(5, Kind::PayOut, 1, -1),

@@ -28,7 +28,7 @@ use Rattle.law.proofs.Gates.{none_some, out_settles}
 use Rattle.law.proofs.Refusing.{refusal_changes_nothing}
 use Rattle.law.proofs.Run.{Stands, along}
 use Rattle.law.proofs.Soundness.{sound_along}
-use Rattle.law.proofs.Sums.{summed, sums_along}
+use Rattle.law.proofs.Sums.{summed, ok_same, sums_along}
 
 -- A book by the tries of its ledger, and what the reader finds in its archive.
 record Backed (h : Held) (start : ℕ) (told : History) (es : ℕ → List Movement) (hand : Option ClosingPermit) : Type 0 where
@@ -70,11 +70,8 @@ kth_said (l ∷ ls) zero = refl
 kth_said (l ∷ ls) (suc zero) = refl
 kth_said (l ∷ ls) (suc (suc k)) = kth_said ls (suc k)
 
-ok_said : (xs ys : List Movement) → ◌≡◌ {A = Result (List Movement) Refusal} (Ok xs) (Ok ys) → xs ≡ ys
-ok_said xs ys h = cc
-
 picked_said : (r : Result (List Link) Refusal) (ms : List Movement) (k : ℕ) → chain_said r ≡ Ok ms → entry_said (picked r k) ≡ Ok (kth_of ms k)
-picked_said (Ok ls) ms k h = kth_said ls k ∙ ap (λ (x : List Movement). Ok (kth_of x k)) (ok_said (said_along ls) ms h)
+picked_said (Ok ls) ms k h = kth_said ls k ∙ ap (λ (x : List Movement). Ok (kth_of x k)) (ok_same (said_along ls) ms h)
 picked_said (Err w) ms k h = let z : ◌≡◌ {A = ℕ} 0 1 = cc in absurd (omega arith)
 
 read_picked : (b : Bool) (h : Held) (a k : ℕ) → cond b (reading h.bytes a k) (Ok None) ≡ picked (cond b (chain_of h.bytes a) (Ok [])) k

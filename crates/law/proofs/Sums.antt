@@ -40,7 +40,7 @@ changes_said : (ls : List Link) → changes ls ≡ summed (said_along ls)
 changes_said [] = refl
 changes_said (l ∷ ls) = ap (λ z. l.entry.change +ℤ z) (changes_said ls)
 
-ok_same : (xs ys : List Movement) → ◌≡◌ {A = Result (List Movement) Refusal} (Ok xs) (Ok ys) → xs ≡ ys
+pub ok_same : (xs ys : List Movement) → ◌≡◌ {A = Result (List Movement) Refusal} (Ok xs) (Ok ys) → xs ≡ ys
 ok_same xs ys h = cc
 
 pub sums_along : (r : Result (List Link) Refusal) (ms : List Movement) → chain_said r ≡ Ok ms → change_along r ≡ Ok (summed ms)

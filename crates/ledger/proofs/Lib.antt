@@ -1,5 +1,8 @@
+pub mod Answered
 pub mod Products
 pub mod Tabulated
+pub mod Made
+pub mod Mapped
 pub mod Types
 pub mod Accounts
 pub mod Banking

@@ -1,5 +1,6 @@
 -- The start of a ledger is sound, and opening and closing a day keep it so.
-use Rattle.std.proofs.Common.{◌≡◌, ℕ, zero, suc, ◌+◌, ◌-◌, ◌*◌, ◌%◌, ◌<◌, Bool, true, false, eqb, ltb, List, [], ◌∷◌, get_or, replicate, Some, None, Option, sym, refl, ap, ◌∙◌, subst, arith}
+use Rattle.std.proofs.Common.{◌≡◌, ℕ, zero, suc, ◌+◌, ◌-◌, ◌*◌, ◌%◌, ◌<◌, Bool, true, false, ◌&&◌, eqb, ltb, List, [], ◌∷◌, get_or, replicate, Some, None, Option, sym, refl, ap, ◌∙◌, subst, arith}
+use Rattle.std.specs.List.{list_all}
 use Rattle.std.proofs.lemmas.Nat.{mod_below}
 use Rattle.std.proofs.lemmas.List.{get_or-replicate}
 use Rattle.std.proofs.lemmas.Int.{ints}
@@ -147,3 +148,7 @@ close_keeps s rate sound h =
       accounts = λ a l. subst (λ n. Bounded n (1000000 * turnover s.table) (account_at s a)) days (subst (λ n. Bounded (settled_days s) n (account_at s a)) fees (sound.accounts a l));
       counts = sound.counts;
     }
+
+pub all_priced_list : (day : ℕ) (os : List (Option Contract)) → list_all (λ o. standing (delivery_holds day) o) os ≡ all_priced day os
+all_priced_list day [] = refl
+all_priced_list day (o ∷ os) = ap (λ b. standing (delivery_holds day) o && b) (all_priced_list day os)

@@ -1,5 +1,5 @@
 -- Sums of outcomes.
-use Rattle.std.proofs.Common.{◌≡◌, ℕ, ◌+◌, ◌*◌, ◌<◌, ◌≤◌, List, get_or, ℤ, pos, Option, refl, ap, ◌∙◌, add-one, arith}
+use Rattle.std.proofs.Common.{◌≡◌, ℕ, ◌+◌, ◌*◌, ◌<◌, ◌≤◌, List, length, get_or, sum_by, ℤ, pos, Option, sym, refl, ap, ◌∙◌, subst, add-one, arith}
 use Rattle.ledger.specs.declared.state.Outcome.{Outcome}
 use Rattle.ledger.specs.declared.state.Account.{Account}
 use Rattle.ledger.specs.declared.state.Contract.{Contract}
@@ -10,11 +10,11 @@ use Rattle.ledger.specs.declared.state.Table.{Table}
 use Rattle.std.proofs.lemmas.Int.{ints}
 use Rattle.ledger.specs.Places.{account_at, place_at, no_account}
 use Rattle.ledger.specs.Rows.{Small, row_at}
-use Rattle.ledger.specs.Settle.{outcome_at, outcome_to, added, nothing, change_of, settled_account, settled_place, settled_table, settled_by, settled_contract, settlement, Near, Roomy, Settleable}
+use Rattle.ledger.specs.Settle.{outcome_at, outcome_to, added, nothing, change_of, settled_account, settled_place, settled_table, settled_by, settled_contract, settlement, Near, NearAll, Roomy, Settleable}
 use Rattle.ledger.specs.Sound.{Sound}
 use Rattle.ledger.specs.Sums.{sum_to, total_to, tabulated}
 use Rattle.ledger.proofs.Exchanging.{small, days_small, taken_small}
-use Rattle.ledger.proofs.Tabulated.{tabulated_at, tabulated_same, sum_same}
+use Rattle.ledger.proofs.Tabulated.{tabulated_at, tabulated_length, tabulated_same, sum_same, sum_most, sum_by_index}
 use Rattle.ledger.proofs.Trading.{terms_at}
 
 pub outcome_none : (holding : ℕ → ℕ → ℕ → ℕ → ℕ) (s : State) (ps : List ℕ) (a : ℕ) → nothing ≡ outcome_to holding s ps a 0
@@ -60,13 +60,20 @@ pub each : (h : ℕ → ℕ → ℕ → ℕ → ℕ) (s : State) (ps qs : List �
 each h s ps qs os eq eo a l =
     ap (λ (zs : List Outcome). get_or zs a nothing) eo ∙ tabulated_at (λ a. outcome_to h s qs a 12) 32 a nothing l ∙ ap (λ (zs : List ℕ). outcome_to h s zs a 12) eq
 
+-- What the delivery fees of all accounts come to at most.
+pub fees_small : (os : List Outcome) → length os ≡ 32 → NearAll os → sum_by (λ o. o.fee) os ≤ 38400000000000
+fees_small os long near =
+    let e = sum_by_index (λ (o : Outcome). o.fee) os nothing in
+    let m = sum_most (λ a. (get_or os a nothing).fee) 1200000000000 32 (λ a l. (near a l).2) in
+    subst (λ (n : ℕ). n ≤ 38400000000000) (sym (subst (λ (n : ℕ). sum_by (λ (o : Outcome). o.fee) os ≡ sum_to (λ a. (get_or os a nothing).fee) n) long e)) m
+
 -- The parts of a settling, put together.
 pub assembled : (h : ℕ → ℕ → ℕ → ℕ → ℕ) (s : State) (ps qs : List ℕ) (os : List Outcome) (fees : ℕ) (xs : List Account) (ys : List (Option Contract)) (t : Table)
-    → qs ≡ ps → os ≡ tabulated (λ a. outcome_to h s qs a 12) 32 → fees ≡ sum_to (λ a. (get_or os a nothing).fee) 32
+    → qs ≡ ps → os ≡ tabulated (λ a. outcome_to h s qs a 12) 32 → fees ≡ sum_by (λ o. o.fee) os
     → xs ≡ tabulated (λ a. settled_account (account_at s a) (get_or os a nothing)) 32 → ys ≡ tabulated (λ p. settled_place s.day (get_or qs p 0) (place_at s p)) 12 → t ≡ settled_table s
     → record { stage = Resting; rate = s.closing; closing = s.closing; day = s.day; highest = s.highest; fees = s.fees + fees; accounts = xs; places = ys; table = t } ≡ settled_by h s ps
 assembled h s ps qs os fees xs ys t eq eo ef ex ey et =
-    let f : fees ≡ sum_to (λ a. (outcome_to h s ps a 12).fee) 32 = ef ∙ sum_same _ _ 32 (λ a l. ap (λ (o : Outcome). o.fee) (each h s ps qs os eq eo a l)) in
+    let f : fees ≡ sum_to (λ a. (outcome_to h s ps a 12).fee) 32 = ef ∙ sum_by_index _ os nothing ∙ ap (sum_to (λ a. (get_or os a nothing).fee)) (ap (λ (zs : List Outcome). length zs) eo ∙ tabulated_length _ 32) ∙ sum_same _ _ 32 (λ a l. ap (λ (o : Outcome). o.fee) (each h s ps qs os eq eo a l)) in
     let x : xs ≡ tabulated (λ a. settled_account (account_at s a) (outcome_to h s ps a 12)) 32 = ex ∙ tabulated_same _ _ 32 no_account (λ a l. ap (settled_account (account_at s a)) (each h s ps qs os eq eo a l)) in
     let y : ys ≡ tabulated (λ p. settled_place s.day (get_or ps p 0) (place_at s p)) 12 = ey ∙ ap (λ (zs : List ℕ). tabulated (λ p. settled_place s.day (get_or zs p 0) (place_at s p)) 12) eq in
     λ i. record { stage = Resting; rate = s.closing; closing = s.closing; day = s.day; highest = s.highest; fees = s.fees + f i; accounts = x i; places = y i; table = et i }

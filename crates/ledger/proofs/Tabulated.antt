@@ -1,7 +1,7 @@
 -- Sums and lists by a number's turns.
-use Rattle.std.proofs.Common.{◌≡◌, ℕ, zero, suc, ◌+◌, ◌*◌, ◌<◌, ◌≤◌, ◌≢◌, List, length, get_or, set, sym, refl, ◌∙◌, subst, inl, inr, add-one, arith}
-use Rattle.std.proofs.lemmas.List.{get_or-set_same, get_or-set_other}
+use Rattle.std.proofs.Common.{◌≡◌, ℕ, zero, suc, ◌+◌, ◌*◌, ◌<◌, ◌≤◌, ◌≢◌, List, [], ◌∷◌, length, get_or, sum_by, sym, refl, ap, ◌∙◌, subst, inl, inr, add-one, arith}
 use Rattle.std.proofs.lemmas.Bool.{cases_eq}
+use Rattle.std.proofs.lemmas.List.Sums.{sum_by-cons}
 use Rattle.std.proofs.lemmas.List.FromFn.{fill_by_all, get_or-map-range_with_len, length-map-range_with_len}
 use Rattle.ledger.specs.Sums.{sum_to, tabulated}
 
@@ -46,13 +46,16 @@ sum_raised f g (suc n) i d lt here other =
       | inr ne ↦ (let below = sum_raised f g n i d (omega arith) here (λ k l m. other k (omega arith) m) in let at = other n (omega arith) (λ e. ne (sym e)) in omega arith)
     ]
 
--- One more place filled.
-pub filled_more : {X : Type 0} (P : ℕ → X → Type 0) (xs : List X) (i : ℕ) (x d : X) → i < length xs → P i x → ((j : ℕ) → j < i → P j (get_or xs j d)) → (j : ℕ) → j < i + 1 → P j (get_or (set xs i x) j d)
-filled_more P xs i x d lt new old j jl =
-    elim (cases_eq j i) [
-      | inl same ↦ subst (λ (n : ℕ). P n (get_or (set xs i x) n d)) (sym same) (subst (P i) (sym (get_or-set_same xs i x d lt)) new)
-      | inr ne ↦ subst (P j) (sym (get_or-set_other xs i j x d ne)) (old j (omega arith))
-    ]
-
 pub tabulated_same : {X : Type 0} (f g : ℕ → X) (n : ℕ) (d : X) → ((k : ℕ) → k < n → f k ≡ g k) → tabulated f n ≡ tabulated g n
 tabulated_same f g n d h = tabulated_all g (tabulated f n) n d (tabulated_length f n) (λ k l. tabulated_at f n k d l ∙ h k l)
+
+-- A sum by its first term, and a sum over a list by its indices.
+sum_first : (f : ℕ → ℕ) (n : ℕ) → sum_to f (suc n) ≡ f 0 + sum_to (λ k. f (suc k)) n
+unfolding sum_to
+sum_first f zero = omega arith
+sum_first f (suc n) = let i = sum_first f n in omega arith
+
+pub sum_by_index : {X : Type 0} (f : X → ℕ) (xs : List X) (d : X) → sum_by f xs ≡ sum_to (λ k. f (get_or xs k d)) (length xs)
+unfolding sum_to
+sum_by_index f [] d = refl
+sum_by_index f (x ∷ xs) d = sum_by-cons f x xs ∙ ap (λ n. f x + n) (sum_by_index f xs d) ∙ sym (sum_first (λ k. f (get_or (x ∷ xs) k d)) (length xs))

@@ -1,5 +1,6 @@
 pub mod Sums
 pub mod Rows
+pub mod Seats
 pub mod Places
 pub mod Sound
 pub mod Cash

@@ -1,5 +1,7 @@
 -- Accounts and places of a ledger, counted from 0, and the limits of a contract (docs/RULES.md, "The book", "Limits").
-use Rattle.std.specs.Prelude.{ℕ, Bool, true, false, ◌&&◌, ◌||◌, ℤ, pos, ◌+ℤ◌, Some, None, Option, nat_le, nat_lt, slice_index_or, slice_set}
+use Rattle.std.specs.Prelude.{ℕ, Bool, true, false, ◌&&◌, ◌||◌, ℤ, pos, ◌+ℤ◌, Some, None, Ok, Err, Option, Result, nat_le, nat_lt, slice_index_or, slice_set}
+use Rattle.refusal.specs.declared.Refusal.{Refusal}
+use Rattle.refusal.specs.declared.Refusal.TheVariants.{PlaceState}
 use Rattle.rules.specs.declared.figures.Figures.{Figures}
 use Rattle.rules.specs.declared.limits.Limits.{Limits}
 use Rattle.rules.specs.Limits.{limits_on}
@@ -21,6 +23,11 @@ equity x = x.available +ℤ pos x.margin
 
 abbrev pub place_at : State → ℕ → Option Contract
 place_at s p = slice_index_or s.places p None
+
+-- The contract that stands in a place, where one does.
+abbrev pub contract_in : Option Contract → Result Contract Refusal
+contract_in None = Err PlaceState
+contract_in (Some c) = Ok c
 
 abbrev pub is_resting : Stage → Bool
 is_resting Resting = true

@@ -15,6 +15,7 @@ use Rattle.ledger.specs.declared.state.Part.TheVariants.{Buyer, Seller}
 use Rattle.ledger.specs.declared.state.Row.{Row}
 use Rattle.ledger.specs.declared.state.State.{State}
 use Rattle.ledger.specs.declared.state.Table.{Table}
+use Rattle.ledger.specs.declared.trades.Parties.{Parties}
 use Rattle.ledger.specs.Places.{account_at, place_at, no_account, is_open, known_account, known_place, limits_of, outside}
 use Rattle.ledger.specs.Rows.{row_at, set_row, row_after, lacking, overfilled, overtraded, Small}
 
@@ -70,6 +71,20 @@ abbrev pub framed : (ℕ → ℕ → ℕ → ℕ) → State → Deal → Bool �
 framed opening s d room (Some w) o = Err w
 framed opening s d room None None = Err PlaceState
 framed opening s d room None (Some c) = sided (first (sides_reasons s d (bargain_at opening s d c) room)) (bargain_at opening s d c)
+
+-- The contract of a deal, where nothing in its frame is refused.
+abbrev pub framed_contract : Option Refusal → Option Contract → Result Contract Refusal
+framed_contract (Some w) o = Err w
+framed_contract None None = Err PlaceState
+framed_contract None (Some c) = Ok c
+
+abbrev pub parties_of : Deal → Parties
+parties_of d = record { place = d.place - 1; buyer = d.buyer - 1; seller = d.seller - 1 }
+
+-- What a check of a deal answers that looks its seats up: beside what it answers, these seats.
+abbrev pub WithParties : {X : Type 0} → Result X Refusal → Deal → Result (X × Parties) Refusal → Type 0
+WithParties answer d (Ok p) = (answer ≡ Ok p.0) × (p.1 ≡ parties_of d)
+WithParties answer d (Err w) = answer ≡ Err w
 
 -- The trade that may be made, or the first reason why not.
 abbrev pub bargain : (ℕ → ℕ → ℕ → ℕ) → State → Deal → Bool → Result Bargain Refusal

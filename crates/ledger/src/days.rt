@@ -1,15 +1,17 @@
 // The start of a ledger, and the opening and the end of a day (docs/RULES.md, "Founding", "Day", "End").
-ghost use Rattle.std.specs.Prelude.{◌≡◌, ℕ, ◌<◌, ◌≤◌, None};
+ghost use Rattle.std.specs.Prelude.{◌≡◌, ◌<◌, ◌≤◌, None};
+ghost use Rattle.std.specs.List.{list_all};
+ghost use Rattle.refusal.specs.Reasons.{answered};
 ghost use Rattle.ledger.specs.Sound.{Sound, RowsIn, standing, delivery_holds};
 ghost use Rattle.ledger.specs.Sums.{tabulated};
 ghost use Rattle.ledger.specs.Places.{account_at, place_at};
-ghost use Rattle.ledger.specs.Rows.{blank};
-ghost use Rattle.ledger.specs.Days.{bad_rate, started, open_refusal, open_state, opened_account, opened_contract, opened_place, opened_table, all_priced, close_refusal, close_state};
+ghost use Rattle.ledger.specs.Days.{bad_rate, started, open_refusal, open_state, opened_account, opened_contract, opened_place, opened_table, close_refusal, close_state};
 
 use crate::state::{Account, Contract, Row, Stage, State, Table};
 use refusal::Refusal;
 use rules::units::{MAX_DAYS, MAX_RATE_UNITS, MIN_RATE_UNITS};
 
+// Consts, as elements that arrays repeat.
 pub(crate) const NOBODY: Account = Account {
     available: 0,
     margin: 0,
@@ -30,7 +32,7 @@ pub(crate) const EMPTY: Row = Row {
 pub(crate) fn is_bad_rate(rate: u64) -> bool
     ensures { result ≡ bad_rate rate }
 {
-    rate < MIN_RATE_UNITS || rate > MAX_RATE_UNITS
+    !(MIN_RATE_UNITS..=MAX_RATE_UNITS).contains(&rate)
 }
 
 pub(crate) fn start(rate: u64) -> State
@@ -49,98 +51,76 @@ pub(crate) fn start(rate: u64) -> State
     }
 }
 
-pub(crate) fn check_open(state: &State, room: bool) -> Option<Refusal>
-    ensures { result ≡ open_refusal state.now room }
+pub(crate) fn check_open(state: &State, room: bool) -> Result<(), Refusal>
+    ensures { result ≡ answered (open_refusal state.now room) }
 {
-    if !state.stage.is_resting() {
-        return Some(Refusal::WrongPhase);
+    if state.stage != Stage::Resting {
+        return Err(Refusal::WrongPhase);
     }
     if state.day >= MAX_DAYS {
-        return Some(Refusal::NoDaysLeft);
+        return Err(Refusal::NoDaysLeft);
     }
     if !room {
-        return Some(Refusal::NoRoom);
+        return Err(Refusal::NoRoom);
     }
-    None
+    Ok(())
 }
 
-fn fresh_account(account: &Account) -> Account
-    ensures { result ≡ opened_account account.now }
+fn fresh_account(account: Account) -> Account
+    ensures { result ≡ opened_account account }
 {
-    let mut next = *account;
-    next.payouts = 0;
-    next
+    Account {
+        payouts: 0,
+        ..account
+    }
 }
 
-fn fresh_contract(contract: &Contract) -> Contract
-    ensures { result ≡ opened_contract contract.now }
+fn fresh_contract(contract: Contract) -> Contract
+    ensures { result ≡ opened_contract contract }
 {
-    let mut next = *contract;
-    next.quantity = 0;
-    next.value = 0;
-    next.bid = None;
-    next.ask = None;
-    next.price = None;
-    next
-}
-
-fn fresh_place(held: &Option<Contract>) -> Option<Contract>
-    ensures { result ≡ opened_place held.now }
-{
-    match held {
-        Some(contract) => Some(fresh_contract(contract)),
-        None => None,
+    Contract {
+        quantity: 0,
+        value: 0,
+        bid: None,
+        ask: None,
+        price: None,
+        ..contract
     }
 }
 
 fn accounts(state: &State) -> [Account; 32]
     ensures { result ≡ tabulated (λ a. opened_account (account_at state.now a)) 32 }
 {
-    let mut all = [NOBODY; 32];
-    for a in 0..32 {
-        let old = state.accounts[a];
-        all[a] = fresh_account(&old);
-    }
-    all
+    state.accounts.map(fresh_account)
 }
 
 fn places(state: &State) -> [Option<Contract>; 12]
     ensures { result ≡ tabulated (λ p. opened_place (place_at state.now p)) 12 }
 {
-    let mut all = [None; 12];
-    for p in 0..12 {
-        let old = state.places[p];
-        all[p] = fresh_place(&old);
-    }
-    all
+    state.places.map(|held| held.map(fresh_contract))
 }
 
 fn table(state: &State) -> Table
     requires { RowsIn state.now }
     ensures { result ≡ opened_table state.now.table }
 {
-    let mut rows = [EMPTY; 384];
-    for k in 0..384 {
-        let old = state.table.rows[k];
-        rows[k] = old.opened();
+    Table {
+        rows: state.table.rows.map(|row| row.opened()),
     }
-    Table { rows }
 }
 
 pub(crate) fn opened(state: &State) -> State
-    requires { (RowsIn state.now) × (state.now.day ≤ 3000) }
+    requires rows { RowsIn state.now }
+    requires day { state.now.day ≤ 3000 }
     ensures { result ≡ open_state None state.now }
 {
     State {
         stage: Stage::Open,
-        rate: state.rate,
-        closing: state.closing,
         day: state.day + 1,
-        highest: state.highest,
-        fees: state.fees,
         accounts: accounts(state),
         places: places(state),
         table: table(state),
+        ..*state
     }
 }
 
@@ -148,41 +128,37 @@ pub(crate) fn opened(state: &State) -> State
 fn is_priced(day: u64, held: &Option<Contract>) -> bool
     ensures { result ≡ standing (delivery_holds day) held.now }
 {
-    match held {
-        Some(contract) => contract.term.last != day || contract.price.is_some(),
-        None => true,
-    }
+    held.is_none_or(|contract| contract.term.last != day || contract.price.is_some())
 }
 
 fn are_priced(day: u64, places: &[Option<Contract>]) -> bool
-    ensures { result ≡ all_priced day places.now }
+    ensures { result ≡ list_all (λ held. standing (delivery_holds day) held) places.now }
 {
-    match places {
-        [] => true,
-        [held, rest @ ..] => is_priced(day, held) && are_priced(day, rest),
-    }
+    places.iter().all(|held| is_priced(day, held))
 }
 
-pub(crate) fn check_close(state: &State, rate: u64) -> Option<Refusal>
-    ensures { result ≡ close_refusal state.now rate }
+#[tactic(auto, using(crate::proofs::Opening::all_priced_list))]
+pub(crate) fn check_close(state: &State, rate: u64) -> Result<(), Refusal>
+    ensures { result ≡ answered (close_refusal state.now rate) }
 {
-    if !state.stage.is_open() {
-        return Some(Refusal::WrongPhase);
+    if state.stage != Stage::Open {
+        return Err(Refusal::WrongPhase);
     }
     if is_bad_rate(rate) {
-        return Some(Refusal::RateRange);
+        return Err(Refusal::RateRange);
     }
     if !are_priced(state.day, &state.places) {
-        return Some(Refusal::DeliveryPrice);
+        return Err(Refusal::DeliveryPrice);
     }
-    None
+    Ok(())
 }
 
 pub(crate) fn closed(state: &State, rate: u64) -> State
     ensures { result ≡ close_state None state.now rate }
 {
-    let mut next = *state;
-    next.stage = Stage::Closed;
-    next.closing = rate;
-    next
+    State {
+        stage: Stage::Closed,
+        closing: rate,
+        ..*state
+    }
 }

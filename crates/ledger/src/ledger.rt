@@ -10,6 +10,8 @@ pub mod questions;
 pub mod settling;
 pub mod trading;
 
+// Each change of a ledger, in the files below, is two lines, its check and its new state: one method for all would take two
+// closures, and its contract would say less than each of theirs.
 #[derive(Drop)]
 pub struct Ledger {
     state: State,

@@ -7,6 +7,7 @@ mod days;
 pub mod ledger;
 mod listing;
 mod quotes;
+mod seat;
 mod settling;
 pub mod state;
 mod table;

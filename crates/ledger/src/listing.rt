@@ -1,34 +1,19 @@
 // Listing a contract, and a new ratio for one (docs/RULES.md, "Listing", "Ratio").
-ghost use Rattle.std.specs.Prelude.{◌≡◌, ℕ, ◌-◌, ◌≤◌, None};
-ghost use Rattle.ledger.specs.Places.{is_resting, known_place, place_at};
-ghost use Rattle.ledger.specs.Listing.{bad_number, bad_ratio, bad_terms, list_refusal, list_state, new_contract, reweigh_refusal, reweigh_state, reweighed};
+ghost use Rattle.std.specs.Prelude.{◌≡◌, ◌-◌, None};
+ghost use Rattle.ledger.specs.Places.{place_at};
+ghost use Rattle.ledger.specs.Seats.{Seated};
+ghost use Rattle.ledger.specs.Listing.{bad_number, bad_ratio, bad_terms, list_refusal, list_state, new_contract, reweigh_refusal, at_place, reweighed};
 
+use crate::seat::PlaceSeat;
 use crate::state::{Contract, Listing, Stage, State};
 use refusal::Refusal;
 use rules::limits::Term;
 use rules::units::{
-    MAX_DAYS, MAX_FEE_FEN, MAX_PRICE_DOLLARS, MAX_RATIO, MIN_PRICE_DOLLARS, MIN_RATIO, PLACES,
+    MAX_DAYS, MAX_FEE_FEN, MAX_PRICE_DOLLARS, MAX_RATIO, MIN_PRICE_DOLLARS, MIN_RATIO,
 };
 
 // Contract numbers fit two bytes.
 const MAX_NUMBER: u64 = 65_535;
-
-impl Stage {
-    pub(crate) fn is_resting(&self) -> bool
-        ensures { result ≡ is_resting self.now }
-    {
-        match self {
-            Stage::Resting => true,
-            _ => false,
-        }
-    }
-}
-
-pub(crate) fn known_place(place: u64) -> bool
-    ensures { result ≡ known_place place }
-{
-    1 <= place && place <= PLACES as u64
-}
 
 fn is_bad_number(highest: u64, number: u64) -> bool
     ensures { result ≡ bad_number highest number }
@@ -39,14 +24,13 @@ fn is_bad_number(highest: u64, number: u64) -> bool
 fn is_bad_ratio(ratio: u64) -> bool
     ensures { result ≡ bad_ratio ratio }
 {
-    ratio < MIN_RATIO || ratio > MAX_RATIO
+    !(MIN_RATIO..=MAX_RATIO).contains(&ratio)
 }
 
 fn are_bad_terms(day: u64, listing: &Listing) -> bool
     ensures { result ≡ bad_terms day listing.now }
 {
-    listing.base < MIN_PRICE_DOLLARS
-        || listing.base > MAX_PRICE_DOLLARS
+    !(MIN_PRICE_DOLLARS..=MAX_PRICE_DOLLARS).contains(&listing.base)
         || is_bad_ratio(listing.ratio)
         || listing.fee > MAX_FEE_FEN
         || listing.delivery > MAX_FEE_FEN
@@ -54,25 +38,24 @@ fn are_bad_terms(day: u64, listing: &Listing) -> bool
         || listing.last > MAX_DAYS
 }
 
-pub(crate) fn check_list(state: &State, listing: &Listing) -> Option<Refusal>
-    ensures { result ≡ list_refusal state.now listing.now }
+// The place to list at, or the first reason why not.
+pub(crate) fn check_list(state: &State, listing: &Listing) -> Result<PlaceSeat, Refusal>
+    ensures { Seated (list_refusal state.now listing.now) listing.now.place result }
 {
-    if !state.stage.is_resting() {
-        return Some(Refusal::WrongPhase);
+    if state.stage != Stage::Resting {
+        return Err(Refusal::WrongPhase);
     }
-    if !known_place(listing.place) {
-        return Some(Refusal::OutOfRange);
-    }
-    if state.places[(listing.place - 1) as usize].is_some() {
-        return Some(Refusal::PlaceState);
+    let at = PlaceSeat::try_from(listing.place)?;
+    if state.places[at.index()].is_some() {
+        return Err(Refusal::PlaceState);
     }
     if is_bad_number(state.highest, listing.number) {
-        return Some(Refusal::ContractNumber);
+        return Err(Refusal::ContractNumber);
     }
     if are_bad_terms(state.day, listing) {
-        return Some(Refusal::ContractTerms);
+        return Err(Refusal::ContractTerms);
     }
-    None
+    Ok(at)
 }
 
 fn contract_of(day: u64, listing: &Listing) -> Contract
@@ -97,50 +80,37 @@ fn contract_of(day: u64, listing: &Listing) -> Contract
     }
 }
 
-pub(crate) fn listed(state: &State, listing: &Listing) -> State
-    requires { (1 ≤ listing.now.place) × (listing.now.place ≤ 12) }
+pub(crate) fn listed(state: &State, at: PlaceSeat, listing: &Listing) -> State
+    requires { at ≡ listing.now.place - 1 }
     ensures { result ≡ list_state None state.now listing.now }
 {
-    let mut next = *state;
-    next.places[(listing.place - 1) as usize] = Some(contract_of(state.day, listing));
-    next.highest = listing.number;
-    next
+    let mut places = state.places;
+    places[at.index()] = Some(contract_of(state.day, listing));
+    State {
+        highest: listing.number,
+        places,
+        ..*state
+    }
 }
 
-pub(crate) fn check_reweigh(state: &State, place: u64, ratio: u64) -> Option<Refusal>
-    ensures { result ≡ reweigh_refusal state.now place ratio }
+pub(crate) fn check_reweigh(state: &State, place: u64, ratio: u64) -> Result<PlaceSeat, Refusal>
+    ensures { Seated (reweigh_refusal state.now place ratio) place result }
 {
-    if !state.stage.is_resting() {
-        return Some(Refusal::WrongPhase);
+    if state.stage != Stage::Resting {
+        return Err(Refusal::WrongPhase);
     }
-    if !known_place(place) {
-        return Some(Refusal::OutOfRange);
-    }
-    if state.places[(place - 1) as usize].is_none() {
-        return Some(Refusal::PlaceState);
+    let at = PlaceSeat::try_from(place)?;
+    if state.places[at.index()].is_none() {
+        return Err(Refusal::PlaceState);
     }
     if is_bad_ratio(ratio) {
-        return Some(Refusal::ContractTerms);
+        return Err(Refusal::ContractTerms);
     }
-    None
+    Ok(at)
 }
 
-fn with_ratio(contract: &Contract, ratio: u64) -> Contract
-    ensures { result ≡ reweighed contract.now ratio }
+pub(crate) fn reweighed(state: &State, at: PlaceSeat, ratio: u64) -> State
+    ensures { result ≡ at_place state.now at (place_at state.now at) (λ c. reweighed c ratio) }
 {
-    let mut next = *contract;
-    next.ratio = ratio;
-    next
-}
-
-pub(crate) fn reweighed(state: &State, place: u64, ratio: u64) -> State
-    requires { (1 ≤ place) × (place ≤ 12) }
-    ensures { result ≡ reweigh_state None state.now place ratio }
-{
-    let mut next = *state;
-    let at = (place - 1) as usize;
-    if let Some(contract) = state.places[at] {
-        next.places[at] = Some(with_ratio(&contract, ratio));
-    }
-    next
+    state.with_contract(at, |contract| Contract { ratio, ..contract })
 }

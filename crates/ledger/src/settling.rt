@@ -1,26 +1,40 @@
 // A settling: prices and marks, what each account's rows come to, and the state that it leaves (docs/RULES.md, "Settling").
-ghost use Rattle.std.specs.Prelude.{◌≡◌, ℕ, ◌+◌, ◌*◌, ◌%◌, ◌<◌, ◌≤◌, true, ℤ, pos, ◌+ℤ◌, ◌-ℤ◌, neg_ℤ, ◌≤ℤ◌, Some, slice_index, slice_index_or};
+// The bound of one outcome stands in clauses (`Near`): definitions make outcomes of any size, and a ghost field of the type
+// would ask each of them for a proof.
+ghost use Rattle.std.specs.Prelude.{◌≡◌, ℕ, ◌+◌, ◌*◌, ◌%◌, ◌<◌, ◌≤◌, true, Some, slice_index, slice_index_or, sum_by};
 ghost use Rattle.ledger.specs.Places.{account_at, place_at, figures_of, is_closed};
-ghost use Rattle.ledger.specs.Rows.{Small, blank, row_at};
+ghost use Rattle.ledger.specs.Rows.{Small};
 ghost use Rattle.ledger.specs.Sound.{Sound};
-ghost use Rattle.ledger.specs.Sums.{tabulated, sum_to};
-ghost use Rattle.ledger.specs.Settle.{delivered, price_of, price_at, prices_of, nothing, row_outcome, outcome_at, outcome_to, settled_account, change_of, repriced, settled_place, settled_row, settled_by, settled_contract, settlement, added, Near, NearAll, Priced, settled_table, Roomy, Settleable};
+ghost use Rattle.ledger.specs.Sums.{tabulated};
+ghost use Rattle.ledger.specs.Settle.{delivered, price_of, price_at, prices_of, nothing, row_outcome, outcome_at, outcome_to, settled_account, change_of, repriced, settled_place, settled_row, settled_by, settled_contract, settlement, added, Near, NearAll, Priced, settled_table, Roomy};
 
-use crate::days::{EMPTY, NOBODY};
+use crate::days::EMPTY;
 use crate::quotes::limits;
 use crate::state::{Account, Contract, Outcome, Row, Settled, Settlement, Stage, State, Table};
 use rules::figures::Figures;
 use rules::margin::MarginRule;
 use rules::price::PriceRule;
-use rules::units::FEN_UNITS;
+use rules::units::{FEN_UNITS, PLACES};
+use std::array;
 
-impl Stage {
-    pub(crate) fn is_closed(&self) -> bool
-        ensures { result ≡ is_closed self.now }
+impl Outcome {
+    // What an empty place comes to, and where the sums start.
+    const NONE: Outcome = Outcome {
+        result: 0,
+        fee: 0,
+        margin: 0,
+    };
+
+    // The sums of up to eleven rows, and one row more.
+    fn plus(self, one: Outcome) -> Outcome
+        requires sums { Near 11 self }
+        requires one { Near 1 one }
+        ensures { result ≡ added self one }
     {
-        match self {
-            Stage::Closed => true,
-            _ => false,
+        Outcome {
+            result: self.result + one.result,
+            fee: self.fee + one.fee,
+            margin: self.margin + one.margin,
         }
     }
 }
@@ -31,7 +45,7 @@ fn is_delivered(day: u64, contract: &Contract) -> bool
     contract.term.last == day
 }
 
-pub(crate) fn figures(day: u64, contract: &Contract) -> Figures
+fn figures(day: u64, contract: &Contract) -> Figures
     ensures { result ≡ figures_of day contract.now }
 {
     Figures {
@@ -49,56 +63,34 @@ fn price_of<P: PriceRule>(day: u64, rule: &P, contract: &Contract) -> u64
     ensures { result ≡ price_of (P.meaning rule.now) day contract.now }
 {
     if is_delivered(day, contract) {
+        // 0 for none, which no ended day has; the definitions name it so
         contract.price.unwrap_or(0)
     } else {
         rule.price(&figures(day, contract))
     }
 }
 
+// An empty place has the price 0 and no Option: the definitions list a number for each place, and nothing reads that one.
 fn price_at<P: PriceRule>(day: u64, rule: &P, held: &Option<Contract>) -> u64
     ensures { result ≡ price_at (P.meaning rule.now) day held.now }
 {
-    match held {
-        Some(contract) => price_of(day, rule, contract),
-        None => 0,
-    }
+    held.as_ref()
+        .map_or(0, |contract| price_of(day, rule, contract))
 }
 
-pub(crate) fn prices<P: PriceRule>(state: &State, rule: &P) -> [u64; 12]
+fn prices<P: PriceRule>(state: &State, rule: &P) -> [u64; 12]
     ensures { result ≡ prices_of (P.meaning rule.now) state.now }
 {
-    let mut all = [0; 12];
-    for p in 0..12 {
-        let held = state.places[p];
-        all[p] = price_at(state.day, rule, &held);
-    }
-    all
-}
-
-// A price at a rate, in units per TEU.
-fn value(price: u64, rate: u64) -> u64
-    requires { (price ≤ 9999) × (rate ≤ 99999) }
-    ensures value { result ≡ price * rate }
-    ensures most { result ≤ 1000000000 }
-{
-    price * rate
-}
-
-// What a row holds, long and short.
-fn held_teu(row: &Row) -> u64
-    requires { (row.now.long ≤ 50000) × (row.now.short ≤ 50000) }
-    ensures value { result ≡ row.now.long + row.now.short }
-    ensures most { result ≤ 100000 }
-{
-    row.long as u64 + row.short as u64
+    state.places.map(|held| price_at(state.day, rule, &held))
 }
 
 fn delivery_fee(contract: &Contract, row: &Row) -> u64
-    requires { (contract.now.delivery ≤ 10000) × ((row.now.long ≤ 50000) × (row.now.short ≤ 50000)) }
+    requires fee { contract.now.delivery ≤ 10000 }
+    requires small { Small row.now }
     ensures value { result ≡ 100 * contract.now.delivery * (row.now.long + row.now.short) }
     ensures most { result ≤ 100000000000 }
 {
-    FEN_UNITS * contract.delivery * held_teu(row)
+    FEN_UNITS * contract.delivery * (row.long as u64 + row.short as u64)
 }
 
 fn held_margin<M: MarginRule>(rule: &M, mark: u64, row: &Row, ratio: u64) -> u64
@@ -108,128 +100,146 @@ fn held_margin<M: MarginRule>(rule: &M, mark: u64, row: &Row, ratio: u64) -> u64
     rule.holding_margin(mark, row.long as u64, row.short as u64, ratio)
 }
 
-fn contract_outcome<M: MarginRule>(
-    state: &State,
-    rule: &M,
-    price: u64,
-    contract: &Contract,
-    row: &Row,
-) -> Outcome
-    requires priced { (price ≤ 9999) × ((state.now.closing ≤ 99999) × ((state.now.rate ≤ 99999) × (Small row.now))) }
-    requires previous { (contract.now.previous ≤ 9999) × (contract.now.delivery ≤ 10000) }
-    ensures value { result ≡ row_outcome (M.holding rule.now) state.now price (Some contract.now) row.now }
-    ensures near { Near 1 result }
-{
-    let mark = value(price, state.closing);
-    let old = value(contract.previous, state.rate);
-    let result = row.result(mark, old, state.rate);
-    if is_delivered(state.day, contract) {
-        Outcome {
-            result,
-            fee: delivery_fee(contract, row),
-            margin: 0,
+// A closed ledger that is settled at a price for each place, under a margin rule.
+#[derive(Drop)]
+struct Settling<'a, M> {
+    state: &'a State,
+    rule: &'a M,
+    prices: [u64; 12],
+    ghost sound: { Sound state.now },
+    ghost priced: { Priced prices },
+}
+
+impl<M: MarginRule> Settling<'_, M> {
+    // What a row comes to in a place where a contract stands.
+    fn contract_outcome(&self, price: u64, contract: &Contract, row: &Row) -> Outcome
+        requires price { price ≤ 9999 }
+        requires previous { contract.now.previous ≤ 9999 }
+        requires fee { contract.now.delivery ≤ 10000 }
+        requires small { Small row.now }
+        ensures value { result ≡ row_outcome (M.holding self.now.rule.now) self.now.state.now price (Some contract.now) row.now }
+        ensures near { Near 1 result }
+    {
+        let state = self.state;
+        let mark = price * state.closing;
+        let old = contract.previous * state.rate;
+        let result = row.result(mark, old, state.rate);
+        if is_delivered(state.day, contract) {
+            Outcome {
+                result,
+                fee: delivery_fee(contract, row),
+                margin: 0,
+            }
+        } else {
+            Outcome {
+                result,
+                fee: 0,
+                margin: held_margin(self.rule, mark, row, contract.ratio),
+            }
         }
-    } else {
-        Outcome {
-            result,
-            fee: 0,
-            margin: held_margin(rule, mark, row, contract.ratio),
+    }
+
+    // What one row comes to; an empty place has nothing to settle.
+    fn row_outcome(&self, account: usize, place: usize) -> Outcome
+        requires account { account < 32 }
+        requires place { place < 12 }
+        ensures value { result ≡ outcome_at (M.holding self.now.rule.now) self.now.state.now self.now.prices account place }
+        ensures near { Near 1 result }
+    {
+        let Some(contract) = &self.state.places[place] else {
+            return Outcome::NONE;
+        };
+        let row = self.state.table.at(account, place);
+        self.contract_outcome(self.prices[place], contract, &row)
+    }
+
+    fn outcome(&self, account: usize) -> Outcome
+        requires { account < 32 }
+        ensures value { result ≡ outcome_to (M.holding self.now.rule.now) self.now.state.now self.now.prices account 12 }
+        ensures near { Near 12 result }
+    {
+        let mut sums = Outcome::NONE;
+        // By the place, since the row, the price and the contract are taken by it and the sums' bound grows with it.
+        for place in 0..PLACES {
+            sums = sums.plus(self.row_outcome(account, place));
+        }
+        sums
+    }
+
+    // By the index, here and in what follows: arrays have no zip, a Vec would need the heap, and what is known of an element
+    // is known by its place.
+    fn outcomes(&self) -> Outcomes
+        ensures { result.each ≡ tabulated (λ a. outcome_to (M.holding self.now.rule.now) self.now.state.now self.now.prices a 12) 32 }
+    {
+        Outcomes {
+            each: array::from_fn(|account| self.outcome(account)),
         }
     }
-}
 
-// What one row comes to; an empty place has nothing to settle.
-fn row_outcome<M: MarginRule>(
-    state: &State,
-    rule: &M,
-    price: u64,
-    held: &Option<Contract>,
-    row: &Row,
-) -> Outcome
-    requires priced { (price ≤ 9999) × ((state.now.closing ≤ 99999) × ((state.now.rate ≤ 99999) × (Small row.now))) }
-    requires settleable { Settleable held.now }
-    ensures value { result ≡ row_outcome (M.holding rule.now) state.now price held.now row.now }
-    ensures near { Near 1 result }
-{
-    match held {
-        Some(contract) => contract_outcome(state, rule, price, contract, row),
-        None => Outcome {
-            result: 0,
-            fee: 0,
-            margin: 0,
-        },
+    fn account(&self, account: usize, outcome: &Outcome) -> Account
+        requires account { account < 32 }
+        requires near { Near 12 outcome.now }
+        ensures { result ≡ settled_account (account_at self.now.state.now account) outcome.now }
+    {
+        settle(&self.state.accounts[account], outcome)
+    }
+
+    fn accounts(&self, outcomes: &Outcomes) -> [Account; 32]
+        ensures { result ≡ tabulated (λ a. settled_account (account_at self.now.state.now a) (slice_index_or outcomes.now.each a nothing)) 32 }
+    {
+        array::from_fn(|account| self.account(account, &outcomes.each[account]))
+    }
+
+    fn places(&self) -> [Option<Contract>; 12]
+        ensures { result ≡ tabulated (λ p. settled_place self.now.state.now.day (slice_index self.now.prices p) (place_at self.now.state.now p)) 12 }
+    {
+        array::from_fn(|place| settle_place(
+            self.state.day,
+            self.prices[place],
+            &self.state.places[place],
+        ))
+    }
+
+    fn contracts(&self) -> [Option<Settled>; 12]
+        ensures { result ≡ tabulated (λ p. settled_contract (slice_index self.now.prices p) (place_at self.now.state.now p)) 12 }
+    {
+        array::from_fn(|place| settle_contract(self.prices[place], &self.state.places[place]))
     }
 }
 
-fn joined(sums: Outcome, one: Outcome) -> Outcome
-    requires { (Near 11 sums) × (Near 1 one) }
-    ensures { result ≡ added sums one }
-{
-    Outcome {
-        result: sums.result + one.result,
-        fee: sums.fee + one.fee,
-        margin: sums.margin + one.margin,
+// Each account's outcome, within what twelve rows come to.
+#[derive(Drop)]
+struct Outcomes {
+    each: [Outcome; 32],
+    ghost near: { NearAll each },
+}
+
+impl Outcomes {
+    fn changes(&self) -> [i64; 32]
+        ensures { result ≡ tabulated (λ a. change_of (slice_index_or self.now.each a nothing)) 32 }
+    {
+        array::from_fn(|account| change(&self.each[account]))
+    }
+
+    fn delivery_fees(&self) -> u64
+        ensures value { result ≡ sum_by (λ o. o.fee) self.now.each }
+        ensures most { result ≤ 38400000000000 }
+    {
+        self.each.iter().map(|outcome| outcome.fee).sum()
     }
 }
 
-// The sums of an account's first rows, and one row more.
-fn with_row<M: MarginRule>(
-    state: &State,
-    rule: &M,
-    prices: &[u64; 12],
-    account: usize,
-    place: usize,
-    sums: Outcome,
-) -> Outcome
-    requires account { account < 32 }
-    requires place { place < 12 }
-    requires sound { Sound state.now }
-    requires priced { Priced prices.now }
-    requires near { Near place sums }
-    ensures value { result ≡ added sums (outcome_at (M.holding rule.now) state.now prices.now account place) }
-    ensures near { Near (place + 1) result }
-{
-    let row = state.table.at(account, place);
-    let held = state.places[place];
-    joined(sums, row_outcome(state, rule, prices[place], &held, &row))
-}
-
-fn outcome<M: MarginRule>(state: &State, rule: &M, prices: &[u64; 12], account: usize) -> Outcome
-    requires account { account < 32 }
-    requires sound { Sound state.now }
-    requires priced { Priced prices.now }
-    ensures value { result ≡ outcome_to (M.holding rule.now) state.now prices.now account 12 }
-    ensures near { Near 12 result }
-{
-    let mut sums = Outcome {
-        result: 0,
-        fee: 0,
-        margin: 0,
-    };
-    for place in 0..12 {
-        sums = with_row(state, rule, prices, account, place, sums);
-    }
-    sums
-}
-
-// Available after a settling: results and the fall in margin, less the delivery fees.
-fn funds(account: &Account, outcome: &Outcome) -> i64
-    requires { (Roomy account.now) × (Near 12 outcome.now) }
-    ensures { result ≡ (settled_account account.now outcome.now).available }
-{
-    let freed = account.margin as i64 - (outcome.margin + outcome.fee) as i64;
-    account.available + outcome.result + freed
-}
-
+// Available gains the results and the fall in margin, less the delivery fees.
 fn settle(account: &Account, outcome: &Outcome) -> Account
-    requires { (Roomy account.now) × (Near 12 outcome.now) }
+    requires room { Roomy account.now }
+    requires near { Near 12 outcome.now }
     ensures { result ≡ settled_account account.now outcome.now }
 {
+    let freed = account.margin as i64 - (outcome.margin + outcome.fee) as i64;
     Account {
-        available: funds(account, outcome),
+        available: account.available + outcome.result + freed,
         margin: outcome.margin,
-        paid: account.paid,
-        payouts: account.payouts,
+        ..*account
     }
 }
 
@@ -243,140 +253,52 @@ fn change(outcome: &Outcome) -> i64
 fn with_previous(contract: &Contract, price: u64) -> Contract
     ensures { result ≡ repriced contract.now price }
 {
-    let mut next = *contract;
-    next.previous = price;
-    next
+    Contract {
+        previous: price,
+        ..*contract
+    }
 }
 
 fn settle_place(day: u64, price: u64, held: &Option<Contract>) -> Option<Contract>
     ensures { result ≡ settled_place day price held.now }
 {
-    match held {
-        Some(contract) => {
-            if is_delivered(day, contract) {
-                None
-            } else {
-                Some(with_previous(contract, price))
-            }
-        }
-        None => None,
-    }
+    held.as_ref()
+        .filter(|contract| !is_delivered(day, contract))
+        .map(|contract| with_previous(contract, price))
 }
 
 fn settle_row(day: u64, held: &Option<Contract>, row: &Row) -> Row
     ensures { result ≡ settled_row day held.now row.now }
 {
-    match held {
-        Some(contract) => {
-            if is_delivered(day, contract) {
-                EMPTY
-            } else {
-                *row
-            }
-        }
-        None => *row,
+    if held
+        .as_ref()
+        .is_some_and(|contract| is_delivered(day, contract))
+    {
+        EMPTY
+    } else {
+        *row
     }
 }
 
 fn settle_contract(price: u64, held: &Option<Contract>) -> Option<Settled>
     ensures { result ≡ settled_contract price held.now }
 {
-    match held {
-        Some(contract) => Some(Settled {
-            number: contract.number,
-            price,
-        }),
-        None => None,
-    }
-}
-
-fn outcomes<M: MarginRule>(state: &State, rule: &M, prices: &[u64; 12]) -> [Outcome; 32]
-    requires sound { Sound state.now }
-    requires priced { Priced prices.now }
-    ensures value { result ≡ tabulated (λ a. outcome_to (M.holding rule.now) state.now prices.now a 12) 32 }
-    ensures near { NearAll result }
-{
-    let mut all = [Outcome {
-        result: 0,
-        fee: 0,
-        margin: 0,
-    }; 32];
-    for a in 0..32 {
-        all[a] = outcome(state, rule, prices, a);
-    }
-    all
-}
-
-fn accounts(state: &State, outcomes: &[Outcome; 32]) -> [Account; 32]
-    requires sound { Sound state.now }
-    requires near { NearAll outcomes.now }
-    ensures { result ≡ tabulated (λ a. settled_account (account_at state.now a) (slice_index_or outcomes.now a nothing)) 32 }
-{
-    let mut all = [NOBODY; 32];
-    for a in 0..32 {
-        let old = state.accounts[a];
-        let outcome = outcomes[a];
-        all[a] = settle(&old, &outcome);
-    }
-    all
-}
-
-fn changes(outcomes: &[Outcome; 32]) -> [i64; 32]
-    requires { NearAll outcomes.now }
-    ensures { result ≡ tabulated (λ a. change_of (slice_index_or outcomes.now a nothing)) 32 }
-{
-    let mut all = [0; 32];
-    for a in 0..32 {
-        let outcome = outcomes[a];
-        all[a] = change(&outcome);
-    }
-    all
-}
-
-fn delivery_fees(outcomes: &[Outcome; 32]) -> u64
-    requires { NearAll outcomes.now }
-    ensures value { result ≡ sum_to (λ a. (slice_index_or outcomes.now a nothing).fee) 32 }
-    ensures most { result ≤ 38400000000000 }
-{
-    let mut sum = 0;
-    for a in 0..32 {
-        sum += outcomes[a].fee;
-    }
-    sum
-}
-
-fn places(state: &State, prices: &[u64; 12]) -> [Option<Contract>; 12]
-    ensures { result ≡ tabulated (λ p. settled_place state.now.day (slice_index prices.now p) (place_at state.now p)) 12 }
-{
-    let mut all = [None; 12];
-    for p in 0..12 {
-        let held = state.places[p];
-        all[p] = settle_place(state.day, prices[p], &held);
-    }
-    all
+    held.as_ref().map(|contract| Settled {
+        number: contract.number,
+        price,
+    })
 }
 
 fn table(state: &State) -> Table
     ensures { result ≡ settled_table state.now }
 {
-    let mut rows = [EMPTY; 384];
-    for k in 0..384 {
-        let row = state.table.rows[k];
-        let held = state.places[k % 12];
-        rows[k] = settle_row(state.day, &held, &row);
+    Table {
+        rows: array::from_fn(|k| settle_row(
+            state.day,
+            &state.places[k % PLACES],
+            &state.table.rows[k],
+        )),
     }
-    Table { rows }
-}
-
-fn contracts(state: &State, prices: &[u64; 12]) -> [Option<Settled>; 12]
-    ensures { result ≡ tabulated (λ p. settled_contract (slice_index prices.now p) (place_at state.now p)) 12 }
-{
-    let mut all = [None; 12];
-    for p in 0..12 {
-        let held = state.places[p];
-        all[p] = settle_contract(prices[p], &held);
-    }
-    all
 }
 
 // The whole settling, of a ledger that is closed.
@@ -391,22 +313,24 @@ pub(crate) fn settled<P: PriceRule, M: MarginRule>(
     ensures near { (a : ℕ) → a < 32 → Near 12 (outcome_to (M.holding margin.now) state.now (prices_of (P.meaning price.now) state.now) a 12) }
     ensures said { result.1 ≡ settlement (M.holding margin.now) state.now (prices_of (P.meaning price.now) state.now) }
 {
-    let prices = prices(state, price);
-    let outcomes = outcomes(state, margin, &prices);
+    let settling = Settling {
+        state,
+        rule: margin,
+        prices: prices(state, price),
+    };
+    let outcomes = settling.outcomes();
     let next = State {
         stage: Stage::Resting,
         rate: state.closing,
-        closing: state.closing,
-        day: state.day,
-        highest: state.highest,
-        fees: state.fees + delivery_fees(&outcomes),
-        accounts: accounts(state, &outcomes),
-        places: places(state, &prices),
+        fees: state.fees + outcomes.delivery_fees(),
+        accounts: settling.accounts(&outcomes),
+        places: settling.places(),
         table: table(state),
+        ..*state
     };
     let said = Settlement {
-        contracts: contracts(state, &prices),
-        changes: changes(&outcomes),
+        contracts: settling.contracts(),
+        changes: outcomes.changes(),
     };
     (next, said)
 }

@@ -1,6 +1,8 @@
 pub mod Amounts
 pub mod Columns
+pub mod Rooms
+pub mod Numbers
 pub mod Openings
 pub mod Pieces
-pub mod Rooms
+pub mod Reaches
 pub mod Skips

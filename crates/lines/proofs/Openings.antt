@@ -1,6 +1,6 @@
 -- A file's lines are its first line and the lines of the rest.
-use Rattle.std.proofs.Common.{◌≡◌, ℕ, suc, ◌+◌, Bool, true, false, cond, eqb, List, [], ◌∷◌, take, drop, sym, refl, ap, ◌∙◌, arith}
-use Rattle.lines.specs.Cut.{reach}
+use Rattle.std.proofs.Common.{◌≡◌, ℕ, suc, ◌+◌, ◌<◌, ◌≤◌, length, Bool, true, false, cond, eqb, List, [], ◌∷◌, take, drop, sym, refl, ap, ◌∙◌, arith}
+use Rattle.lines.specs.Cut.{reach, before, past}
 use Rattle.lines.specs.File.{with_byte, lines_of, first_line, opened, FirstLinesAreTheLines}
 
 -- One more byte at the front of a line of r bytes.
@@ -16,3 +16,18 @@ more false b (x ∷ xs) h = ap (with_byte b) h ∙ longer b (x ∷ xs) (reach 10
 pub first_lines_are_the_lines : FirstLinesAreTheLines
 first_lines_are_the_lines [] = refl
 first_lines_are_the_lines (b ∷ bs) = more (eqb b 10) b bs (first_lines_are_the_lines bs)
+
+-- The same, where a first line was cut off.
+pub lines_cut : (file front back : List ℕ) → 0 < length file → front ≡ before 10 file → back ≡ past 10 file → lines_of file ≡ front ∷ lines_of back
+lines_cut [] front back l f b = absurd (omega arith)
+lines_cut (x ∷ xs) front back l f b = first_lines_are_the_lines (x ∷ xs) ∙ (λ i. sym f i ∷ lines_of (sym b i))
+
+within_more : (t : Bool) (b n : ℕ) (ls : List (List ℕ)) → length ls ≤ n → length (cond t ([] ∷ ls) (with_byte b ls)) ≤ suc n
+within_more true b n ls h = omega arith
+within_more false b n [] h = omega arith
+within_more false b n (l ∷ ls) h = omega arith
+
+-- No file has more lines than bytes.
+pub lines_within : (file : List ℕ) → length (lines_of file) ≤ length file
+lines_within [] = omega arith
+lines_within (b ∷ bs) = within_more (eqb b 10) b (length bs) (lines_of bs) (lines_within bs)

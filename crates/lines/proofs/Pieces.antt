@@ -1,5 +1,7 @@
 -- Pieces and the spaces between them.
 use Rattle.std.proofs.Common.{◌≡◌, ℕ, suc, ◌+◌, Bool, true, false, cond, eqb, ◌⊎◌, List, [], ◌∷◌, ◌++◌, take, drop, refl, ap, ◌∙◌, inl, inr, arith, eqb-true}
+use Rattle.std.specs.List.{count_by}
+use Rattle.std.proofs.lemmas.List.Recursion.{is_count_by}
 use Rattle.lines.specs.Cut.{reach, before, past}
 use Rattle.lines.specs.Field.{spaces, SpacesPartPieces}
 
@@ -37,3 +39,6 @@ parted (b ∷ bs) = parted_more (eqb b 32) b bs refl (parted bs)
 
 pub spaces_part_pieces : SpacesPartPieces
 spaces_part_pieces bs = (closed bs, parted bs)
+
+pub spaces_counted : (bs : List ℕ) → spaces bs ≡ count_by (λ (b : ℕ). eqb b 32) bs
+spaces_counted = is_count_by spaces (λ (b : ℕ). eqb b 32) refl (λ _ _. refl)

@@ -55,6 +55,17 @@ number_at k s = number_in (token_at (ahead k s))
 abbrev pub side_at : ℕ → Spot → Result Side Spoiled
 side_at k s = side_in (token_at (ahead k s))
 
+-- One more number at the front. The first thing that is wrong stands.
+abbrev pub with_number : Result ℕ Spoiled → Result (List ℕ) Spoiled → Result (List ℕ) Spoiled
+with_number (Err e) r = Err e
+with_number (Ok n) (Err e) = Err e
+with_number (Ok n) (Ok ns) = Ok (n ∷ ns)
+
+-- The k numbers that stand one after another from a spot on.
+abbrev pub numbers_at : ℕ → Spot → Result (List ℕ) Spoiled
+numbers_at zero s = Ok []
+numbers_at (suc k) s = with_number (number_at 0 s) (numbers_at k (next s))
+
 -- Where a cursor stands.
 abbrev pub spot : Cursor → Spot
 spot c = record { column = c.column; bytes = c.rest.now }

@@ -3,6 +3,7 @@ pub mod Cut
 pub mod Examples
 pub mod Field
 pub mod File
+pub mod Instruction
 pub mod Line
 pub mod Token
 pub mod Verb

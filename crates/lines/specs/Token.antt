@@ -41,6 +41,11 @@ mark (Word t c) = word t.now c
 mark (Number t n c) = numeral t.now n c
 mark (Letter t s c) = letter t.now s c
 
+abbrev pub column_of : Mark → ℕ
+column_of (word bs c) = c
+column_of (numeral bs n c) = c
+column_of (letter bs s c) = c
+
 abbrev or_side : Option Side → List ℕ → ℕ → Mark
 or_side (Some s) bs c = letter bs s c
 or_side None bs c = word bs c

@@ -5,11 +5,11 @@ ghost use Rattle.lines.specs.Amount.{decimals_of, sign_of, plain, yuan};
 use std::fmt;
 
 // Units, ten-thousandths of a yuan.
-#[derive(Clone, Copy)]
+#[derive(Clone, Copy, Debug, PartialEq, Eq)]
 pub struct Amount(pub i64);
 
 // Units that are never below zero, as margins and fees.
-#[derive(Clone, Copy)]
+#[derive(Clone, Copy, Debug, PartialEq, Eq)]
 pub struct Magnitude(pub u64);
 
 impl Magnitude {
@@ -24,7 +24,7 @@ impl Magnitude {
         ensures { result ≡ decimals_of self.0 }
     {
         let n = self.0;
-        [n / 1000 % 10, n / 100 % 10, n / 10 % 10, n % 10]
+        [n / 1_000, n / 100, n / 10, n].map(|front| front % 10)
     }
 }
 

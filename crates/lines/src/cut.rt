@@ -1,22 +1,20 @@
 // The one place where bytes are cut in two: a file at byte 10, a line at a space (docs/RULES.md, "Instruction lines").
-ghost use Rattle.std.specs.Prelude.{◌≡◌, ◌-◌, ◌≤◌, length};
+ghost use Rattle.std.specs.Prelude.{◌≡◌, ◌-◌, ◌≤◌, ◌==◌, length, position};
 ghost use Rattle.lines.specs.Cut.{reach, before, past};
 
-// How many bytes stand before the first `stop`. A loop, since a file may have one line of any length.
+fn first_place(bytes: &[u8], stop: u8) -> Option<usize>
+    ensures { result ≡ position (λ b. b == stop) bytes.now }
+{
+    bytes.iter().position(|b| *b == stop)
+}
+
+// How many bytes stand before the first `stop`.
+#[tactic(auto, using(crate::proofs::Reaches::reaches))]
 fn passed_before(bytes: &[u8], stop: u8) -> usize
     ensures exact { result ≡ reach stop bytes.now }
     ensures within { result ≤ length bytes.now }
 {
-    let mut passed = 0;
-    let mut rest = bytes;
-    while let [b, more @ ..] = rest {
-        if *b == stop {
-            return passed;
-        }
-        passed += 1;
-        rest = more;
-    }
-    passed
+    first_place(bytes, stop).unwrap_or(bytes.len())
 }
 
 // The bytes before the first `stop`, and those after it.

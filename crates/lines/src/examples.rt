@@ -6,12 +6,6 @@ ghost use Rattle.lines.specs.File.{lines_of, FirstLinesAreTheLines};
 ghost use Rattle.lines.specs.Line.{instruction_of};
 ghost use Rattle.lines.specs.Examples.{examples, file_of};
 
-fn count() -> usize
-    ensures { result ≡ length examples }
-{
-    16
-}
-
 // How many lines are worked. It promises that each is read as the rules say, and the laws of lines, pieces and columns.
 pub fn worked() -> usize
     ensures count { result ≡ length examples }
@@ -20,5 +14,5 @@ pub fn worked() -> usize
     ensures pieces { SpacesPartPieces }
     ensures columns { ColumnsArePositions }
 {
-    count()
+    16
 }

@@ -2,7 +2,7 @@
 ghost use Rattle.std.specs.Prelude.{◌≡◌, ◌≤◌, length, nat_lt};
 ghost use Rattle.lines.specs.Token.{mark};
 ghost use Rattle.lines.specs.Field.{spot};
-ghost use Rattle.lines.specs.Line.{verb_in, counted, pair_at, listing_at, quote_at, trade_at, fields_at, instruction_of};
+ghost use Rattle.lines.specs.Line.{verb_in, counted, fields_at, instruction_of};
 
 use crate::cursor::Cursor;
 use crate::field::count_fields;
@@ -41,74 +41,14 @@ fn check_count(line: &[u8], cursor: Cursor, wanted: usize) -> Result<(), Spoiled
 fn verb_in(token: Token) -> Result<Verb, Spoiled>
     ensures { result ≡ verb_in (mark token.entry) }
 {
-    if let Token::Word { text, .. } = token {
-        if let Some(verb) = read_verb(text) {
-            return Ok(verb);
-        }
-    }
-    Err(Spoiled {
+    let unknown = Spoiled {
         refusal: Refusal::UnknownWord,
         column: 1,
-    })
-}
-
-fn take_pair(mut cursor: Cursor) -> Result<(u64, u64), Spoiled>
-    ensures { result ≡ pair_at (spot cursor.entry) }
-{
-    let first = cursor.number()?;
-    let second = cursor.number()?;
-    Ok((first, second))
-}
-
-fn take_listing(mut cursor: Cursor) -> Result<Instruction, Spoiled>
-    ensures { result ≡ listing_at (spot cursor.entry) }
-{
-    let place = cursor.number()?;
-    let number = cursor.number()?;
-    let base = cursor.number()?;
-    let ratio = cursor.number()?;
-    let fee = cursor.number()?;
-    let delivery = cursor.number()?;
-    let last = cursor.number()?;
-    Ok(Instruction::List {
-        place,
-        number,
-        base,
-        ratio,
-        fee,
-        delivery,
-        last,
-    })
-}
-
-fn take_quote(mut cursor: Cursor) -> Result<Instruction, Spoiled>
-    ensures { result ≡ quote_at (spot cursor.entry) }
-{
-    let place = cursor.number()?;
-    let bid = cursor.number()?;
-    let ask = cursor.number()?;
-    Ok(Instruction::Quote { place, bid, ask })
-}
-
-fn take_trade(mut cursor: Cursor) -> Result<Instruction, Spoiled>
-    ensures { result ≡ trade_at (spot cursor.entry) }
-{
-    let place = cursor.number()?;
-    let price = cursor.number()?;
-    let quantity = cursor.number()?;
-    let buyer = cursor.number()?;
-    let buying = cursor.side()?;
-    let seller = cursor.number()?;
-    let selling = cursor.side()?;
-    Ok(Instruction::Trade {
-        place,
-        price,
-        quantity,
-        buyer,
-        buying,
-        seller,
-        selling,
-    })
+    };
+    match token {
+        Token::Word { text, .. } => read_verb(text).ok_or(unknown),
+        _ => Err(unknown),
+    }
 }
 
 // The fields that belong to a word; `cursor` is at the first of them.
@@ -117,27 +57,55 @@ fn take_fields(verb: Verb, mut cursor: Cursor) -> Result<Instruction, Spoiled>
 {
     match verb {
         Verb::Found => {
-            let (book, rate) = take_pair(cursor)?;
+            let [book, rate] = cursor.numbers::<2>()?;
             Ok(Instruction::Found { book, rate })
         }
-        Verb::List => take_listing(cursor),
+        Verb::List => {
+            let [place, number, base, ratio, fee, delivery, last] = cursor.numbers::<7>()?;
+            Ok(Instruction::List {
+                place,
+                number,
+                base,
+                ratio,
+                fee,
+                delivery,
+                last,
+            })
+        }
         Verb::Ratio => {
-            let (place, ratio) = take_pair(cursor)?;
+            let [place, ratio] = cursor.numbers::<2>()?;
             Ok(Instruction::Ratio { place, ratio })
         }
         Verb::Day => Ok(Instruction::Day),
         Verb::In => {
-            let (account, fen) = take_pair(cursor)?;
+            let [account, fen] = cursor.numbers::<2>()?;
             Ok(Instruction::In { account, fen })
         }
         Verb::Out => {
-            let (account, fen) = take_pair(cursor)?;
+            let [account, fen] = cursor.numbers::<2>()?;
             Ok(Instruction::Out { account, fen })
         }
-        Verb::Quote => take_quote(cursor),
-        Verb::Trade => take_trade(cursor),
+        Verb::Quote => {
+            let [place, bid, ask] = cursor.numbers::<3>()?;
+            Ok(Instruction::Quote { place, bid, ask })
+        }
+        Verb::Trade => {
+            let [place, price, quantity, buyer] = cursor.numbers::<4>()?;
+            let buying = cursor.side()?;
+            let seller = cursor.number()?;
+            let selling = cursor.side()?;
+            Ok(Instruction::Trade {
+                place,
+                price,
+                quantity,
+                buyer,
+                buying,
+                seller,
+                selling,
+            })
+        }
         Verb::Deliver => {
-            let (place, price) = take_pair(cursor)?;
+            let [place, price] = cursor.numbers::<2>()?;
             Ok(Instruction::Deliver { place, price })
         }
         Verb::End => {

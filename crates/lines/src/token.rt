@@ -1,13 +1,14 @@
 // What a piece of a line is by itself: a number, a side letter, or else a word (docs/RULES.md, "Instruction lines").
 ghost use Rattle.std.specs.Prelude.{◌≡◌, ◌+◌, ◌*◌, ◌^◌, ◌≤◌, length};
-ghost use Rattle.lines.specs.Token.{digits, sized, padded, number, side, mark, token_of};
+ghost use Rattle.lines.specs.Token.{digits, sized, padded, number, side, mark, column_of, token_of};
 
 use crate::instruction::Side;
 
 const MOST_DIGITS: usize = 13;
 
-// A piece of a line with its column, counted from 1. The text is borrowed from the line.
-#[derive(Clone, Copy)]
+// A piece of a line with its column, counted from 1. The text is borrowed from the line. An enum and no struct round one:
+// each case holds all that a piece of its kind has.
+#[derive(Clone, Copy, Debug, PartialEq, Eq)]
 pub enum Token<'a> {
     Word {
         text: &'a [u8],
@@ -25,7 +26,20 @@ pub enum Token<'a> {
     },
 }
 
-// Reads on after the digits of `high`, which leave room for those that may come.
+impl Token<'_> {
+    pub(crate) fn column(self) -> usize
+        ensures { result ≡ column_of (mark self.entry) }
+    {
+        match self {
+            Token::Word { column, .. }
+            | Token::Number { column, .. }
+            | Token::Letter { column, .. } => column,
+        }
+    }
+}
+
+// Reads on after the digits of `high`, which leave room for those that may come. Digits and letters are read by slice
+// patterns, the first byte and the rest.
 fn read_digits(text: &[u8], high: u64) -> Option<u64>
     requires { (high + 1) * 10 ^ length text.now ≤ 10 ^ 13 }
     ensures { result ≡ digits high text.now }
@@ -40,17 +54,14 @@ fn read_digits(text: &[u8], high: u64) -> Option<u64>
 fn is_sized(text: &[u8]) -> bool
     ensures { result ≡ sized text.now }
 {
-    !text.is_empty() && text.len() <= MOST_DIGITS
+    matches!(text.len(), 1..=MOST_DIGITS)
 }
 
 // Whether a zero leads more digits.
 fn is_padded(text: &[u8]) -> bool
     ensures { result ≡ padded text.now }
 {
-    match text {
-        [b'0', _, ..] => true,
-        _ => false,
-    }
+    matches!(text, [b'0', _, ..])
 }
 
 fn read_number(text: &[u8]) -> Option<u64>
@@ -73,6 +84,7 @@ fn read_side(text: &[u8]) -> Option<Side>
 }
 
 // What a text is by itself, whatever the line asks for at its place.
+#[tactic(auto, unfolding(crate::specs::Token::token_of))]
 pub fn classify<'a>(text: &'a [u8], column: usize) -> Token<'a>
     ensures { mark result ≡ token_of text.now column }
 {
@@ -83,8 +95,8 @@ pub fn classify<'a>(text: &'a [u8], column: usize) -> Token<'a>
             column,
         };
     }
-    if let Some(side) = read_side(text) {
-        return Token::Letter { text, side, column };
+    match read_side(text) {
+        Some(side) => Token::Letter { text, side, column },
+        None => Token::Word { text, column },
     }
-    Token::Word { text, column }
 }

@@ -1,9 +1,8 @@
 // The eleven words that may begin a line, and how many fields follow each (docs/RULES.md, "Instruction lines").
 ghost use Rattle.std.specs.Prelude.{◌≡◌};
-ghost use Rattle.std.specs.Str.{bytes_eq};
 ghost use Rattle.lines.specs.Verb.{verb_of, fields_of};
 
-#[derive(Clone, Copy)]
+#[derive(Clone, Copy, Debug, PartialEq, Eq)]
 pub enum Verb {
     Found,
     List,
@@ -18,39 +17,22 @@ pub enum Verb {
     Settle,
 }
 
-fn is(text: &[u8], word: &[u8]) -> bool
-    ensures { result ≡ bytes_eq text.now word.now }
-{
-    text == word
-}
-
 pub fn read_verb(text: &[u8]) -> Option<Verb>
     ensures { result ≡ verb_of text.now }
 {
-    if is(text, b"found") {
-        Some(Verb::Found)
-    } else if is(text, b"list") {
-        Some(Verb::List)
-    } else if is(text, b"ratio") {
-        Some(Verb::Ratio)
-    } else if is(text, b"day") {
-        Some(Verb::Day)
-    } else if is(text, b"in") {
-        Some(Verb::In)
-    } else if is(text, b"out") {
-        Some(Verb::Out)
-    } else if is(text, b"quote") {
-        Some(Verb::Quote)
-    } else if is(text, b"trade") {
-        Some(Verb::Trade)
-    } else if is(text, b"deliver") {
-        Some(Verb::Deliver)
-    } else if is(text, b"end") {
-        Some(Verb::End)
-    } else if is(text, b"settle") {
-        Some(Verb::Settle)
-    } else {
-        None
+    match text {
+        b"found" => Some(Verb::Found),
+        b"list" => Some(Verb::List),
+        b"ratio" => Some(Verb::Ratio),
+        b"day" => Some(Verb::Day),
+        b"in" => Some(Verb::In),
+        b"out" => Some(Verb::Out),
+        b"quote" => Some(Verb::Quote),
+        b"trade" => Some(Verb::Trade),
+        b"deliver" => Some(Verb::Deliver),
+        b"end" => Some(Verb::End),
+        b"settle" => Some(Verb::Settle),
+        _ => None,
     }
 }
 

@@ -1,5 +1,5 @@
 -- Every refusal's number and layer (docs/RULES.md, "Refusals").
-use Rattle.std.specs.Prelude.{ℕ}
+use Rattle.std.specs.Prelude.{ℕ, List, ◌++◌, Ok, Err, Result, codes, decimal}
 use Rattle.refusal.specs.declared.Refusal.{Refusal}
 use Rattle.refusal.specs.declared.Refusal.TheVariants.{ArchiveLength, WrongPhase, ForeignPermit, OutOfRange, RateRange, PlaceState, ContractNumber, ContractTerms, NoDaysLeft, DeliveryPrice, CashAmount, NotAvailable, ThirdPayOut, SameTrader, QuantityRange, PriceLimits, NotHeld, SideCeiling, DayCeiling, ShortOfMargin, NoRoom, LineLength, UnknownWord, FieldCount, BadField, NotAnArchive, BrokenChain}
 use Rattle.refusal.specs.declared.Layer.{Layer}
@@ -64,3 +64,12 @@ layer_of FieldCount = Text
 layer_of BadField = Text
 layer_of NotAnArchive = Book
 layer_of BrokenChain = Book
+
+-- A refusal as text.
+abbrev pub refused_text : Refusal → List ℕ
+refused_text w = codes "refused " ++ decimal (number_of w)
+
+-- The number that is said of an answer: the refusal's, or 0 for a call that was done.
+abbrev pub number_said : Result (Unit {0}) Refusal → ℕ
+number_said (Ok done) = 0
+number_said (Err w) = number_of w

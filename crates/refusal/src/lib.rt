@@ -2,11 +2,14 @@
 // A later refusal is one more case with the next number; no case is ever renumbered.
 #![tactic(auto)]
 
-ghost use Rattle.std.specs.Prelude.{◌≡◌};
-ghost use Rattle.refusal.specs.Numbered.{number_of, layer_of};
+ghost use Rattle.std.specs.Prelude.{◌≡◌, Some};
+ghost use Rattle.refusal.specs.Numbered.{number_of, layer_of, number_said, refused_text};
+
+use std::error::Error;
+use std::fmt;
 
 // Why a call, a line or a reading was turned down.
-#[derive(Clone, Copy)]
+#[derive(Clone, Copy, Debug, PartialEq, Eq)]
 pub enum Refusal {
     // by the program that makes the calls
     ArchiveLength,
@@ -45,7 +48,7 @@ pub enum Refusal {
 }
 
 // The part of the product that the print-out names beside a refusal's number.
-#[derive(Clone, Copy)]
+#[derive(Clone, Copy, Debug, PartialEq, Eq)]
 pub enum Layer {
     Text,
     Archive,
@@ -53,6 +56,7 @@ pub enum Layer {
 }
 
 impl Refusal {
+    // Written out and by no discriminants: with these, two equal numbers would never come before the contract.
     pub fn number(self) -> u8
         ensures { result ≡ number_of self }
     {
@@ -97,4 +101,21 @@ impl Refusal {
             _ => Layer::Book,
         }
     }
+}
+
+impl fmt::Display for Refusal {
+    ghost output = { λ refusal. Some (refused_text refusal) };
+
+    fn fmt<W: fmt::Write>(&self, f: &mut fmt::Formatter<W>) -> fmt::Result {
+        write!(f, "refused {}", self.number())
+    }
+}
+
+impl Error for Refusal {}
+
+// What a program prints for an answer: the number of the refusal, or 0 for a call that was done.
+pub fn said(answer: Result<(), Refusal>) -> u8
+    ensures { result ≡ number_said answer }
+{
+    answer.err().map_or(0, Refusal::number)
 }

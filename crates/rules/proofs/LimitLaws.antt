@@ -1,15 +1,10 @@
 -- Facts of the limits (docs/RULES.md, "Limits").
-use Rattle.std.proofs.Common.{ℕ, ◌*◌, ◌≤◌, arith}
-use Rattle.std.proofs.lemmas.Nat.{mul-le}
+use Rattle.std.proofs.Common.{ℕ, ◌≤◌, arith}
 use Rattle.std.proofs.lemmas.Bool.{cond_both}
 use Rattle.rules.specs.declared.limits.Limits.{Limits}
 use Rattle.rules.specs.declared.limits.Term.{Term}
-use Rattle.rules.specs.Limits.{part, limits_about, limits_on, wide_day, Within}
+use Rattle.rules.specs.Limits.{limits_about, limits_on, wide_day, Within}
 use Rattle.rules.specs.Units.{max_price}
-
-pub part_of_price : (percent price : ℕ) → percent ≤ 100 → part percent price ≤ price
-part_of_price percent price few =
-    let most : price * percent ≤ price * 100 = mul-le price percent price 100 (omega arith) few in omega arith
 
 pub within_own_limits : (percent price : ℕ) → price ≤ max_price → Within (limits_about percent price) price
 within_own_limits percent price small = record { low = omega arith; high = omega arith }

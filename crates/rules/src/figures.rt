@@ -3,7 +3,7 @@ use crate::limits::Limits;
 
 // Prices in dollars per TEU, the quantity in TEU. The value is the sum of price × quantity over the day's trades,
 // bid and ask are the closing quotes, if any.
-#[derive(Clone, Copy)]
+#[derive(Clone, Copy, Debug, PartialEq, Eq)]
 pub struct Figures {
     pub previous: u64,
     pub limits: Limits,

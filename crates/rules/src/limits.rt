@@ -5,14 +5,14 @@ ghost use Rattle.rules.specs.Limits.{limits_about, limits_on, wide_day};
 use crate::units::{MAX_PRICE_DOLLARS, NARROW_PERCENT, WIDE_PERCENT};
 
 // The lowest and the highest price, in dollars per TEU.
-#[derive(Clone, Copy)]
+#[derive(Clone, Copy, Debug, PartialEq, Eq)]
 pub struct Limits {
     pub lower: u64,
     pub upper: u64,
 }
 
 // A contract's listing day and its last.
-#[derive(Clone, Copy)]
+#[derive(Clone, Copy, Debug, PartialEq, Eq)]
 pub struct Term {
     pub listed: u64,
     pub last: u64,

@@ -25,7 +25,7 @@ pub trait MarginRule {
 }
 
 // Long and short both count.
-#[derive(Clone, Copy)]
+#[derive(Clone, Copy, Debug, PartialEq, Eq)]
 pub struct BothSides;
 
 impl MarginRule for BothSides {
@@ -47,7 +47,7 @@ impl MarginRule for BothSides {
 }
 
 // Only the larger of long and short counts.
-#[derive(Clone, Copy)]
+#[derive(Clone, Copy, Debug, PartialEq, Eq)]
 pub struct LargerSide;
 
 impl MarginRule for LargerSide {

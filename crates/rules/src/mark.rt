@@ -7,8 +7,8 @@ ghost use Rattle.rules.specs.Worked.{WorkedFigures};
 use crate::figures::Figures;
 use crate::price::PriceRule;
 
-// The settlement price at the settlement rate, in units per TEU. Every settlement starts here, so this is where
-// the definitions are held to the worked figures of docs/RULES.md.
+// The settlement price at the settlement rate, in units per TEU. Here the definitions are held to the worked figures of
+// docs/RULES.md.
 pub fn mark<R: PriceRule>(rule: &R, figures: &Figures, rate: u64) -> u128
     ensures value { result ≡ marked (R.meaning rule.now figures.now) rate }
     ensures small { Small figures.now rate result }

@@ -17,7 +17,7 @@ pub trait PriceRule {
 }
 
 // The day's average, else the limit at which a quote stands alone, else the previous price.
-#[derive(Clone, Copy)]
+#[derive(Clone, Copy, Debug, PartialEq, Eq)]
 pub struct Freight;
 
 impl PriceRule for Freight {
@@ -38,7 +38,7 @@ impl PriceRule for Freight {
 }
 
 // As the freight rule, but on an untraded day two quotes draw the previous price between them.
-#[derive(Clone, Copy)]
+#[derive(Clone, Copy, Debug, PartialEq, Eq)]
 pub struct Futures;
 
 impl PriceRule for Futures {
@@ -64,8 +64,9 @@ fn average(value: u64, quantity: u64) -> u64
     ((2 * value + quantity) / (2 * quantity)) as u64
 }
 
+// The middle one of three prices.
 fn median(a: u64, b: u64, c: u64) -> u64
     ensures { result ≡ middle a b c }
 {
-    a.min(b).max(a.max(b).min(c))
+    c.clamp(a.min(b), a.max(b))
 }

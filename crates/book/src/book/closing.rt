@@ -1,13 +1,14 @@
 // The end of a day, and its settling (docs/RULES.md, "End", "Settle").
 ghost use Rattle.std.specs.Prelude.{◌≡◌, length};
-ghost use Rattle.ledger.specs.Days.{close_refusal, close_state};
+ghost use Rattle.refusal.specs.Reasons.{answered};
+ghost use Rattle.ledger.specs.Days.{close_state};
 ghost use Rattle.book.specs.Closing.{end_refusal, closing_for, settle_refusal, settle_state, settle_moves, settle_desk};
 ghost use Rattle.book.specs.Entries.{desk_with, bytes_with};
 ghost use Rattle.book.specs.Gates.{spent_for};
 
 use super::Book;
-use super::gates::refusal_in;
-use crate::permit::{ClosingPermit, DayPermit};
+use super::gates::hand_back;
+use crate::permit::{ClosingPermit, DayPermit, Permit};
 use refusal::Refusal;
 use rules::margin::MarginRule;
 use rules::price::PriceRule;
@@ -23,23 +24,18 @@ impl Book {
         ensures desk { self.new.desk ≡ self.old.desk }
         ensures ledger { self.new.ledger.state ≡ close_state (end_refusal self.old.desk self.old.ledger.state permit rate) self.old.ledger.state rate }
     {
-        if let Some(refusal) = self.check_day(&permit) {
-            return Err((permit, refusal));
-        }
-        if let Some(refusal) = self.close(rate) {
-            return Err((permit, refusal));
-        }
-        let DayPermit { book, day } = permit;
+        let answer = self.close(&permit, rate);
+        let DayPermit { book, day } = hand_back(permit, answer)?;
         Ok(ClosingPermit { book, day })
     }
 
-    fn close(&mut self, rate: u64) -> Option<Refusal>
-        ensures answer { result ≡ close_refusal self.old.ledger.state rate }
+    fn close(&mut self, permit: &DayPermit, rate: u64) -> Result<(), Refusal>
+        ensures answer { result ≡ answered (end_refusal self.old.desk self.old.ledger.state permit.now rate) }
         ensures desk { self.new.desk ≡ self.old.desk }
-        ensures ledger { self.new.ledger.state ≡ close_state result self.old.ledger.state rate }
+        ensures ledger { self.new.ledger.state ≡ close_state (end_refusal self.old.desk self.old.ledger.state permit.now rate) self.old.ledger.state rate }
     {
-        let answer = self.ledger.close(rate);
-        refusal_in(answer)
+        self.check_permit(permit)?;
+        self.ledger.close(rate)
     }
 
     // Marks the book to market under the rules that the caller brings, and writes an entry for each account. The closing
@@ -56,16 +52,11 @@ impl Book {
         ensures ledger { self.new.ledger.state ≡ settle_state (settle_refusal self.old.desk self.old.ledger.state (length archive.old) permit) (P.meaning price.now) (M.holding margin.now) self.old.ledger.state }
         ensures bytes { archive.new ≡ bytes_with (settle_desk (settle_refusal self.old.desk self.old.ledger.state (length archive.old) permit) (P.meaning price.now) (M.holding margin.now) self.old.desk self.old.ledger.state) archive.old (settle_moves (settle_refusal self.old.desk self.old.ledger.state (length archive.old) permit) (P.meaning price.now) (M.holding margin.now) self.old.ledger.state) }
     {
-        if let Some(refusal) = self.check_settle(archive.len(), &permit) {
-            return Err((permit, refusal));
-        }
-        match self.ledger.revalue(price, margin) {
-            Ok(said) => {
-                self.write_settlement(archive, &said);
-                let ClosingPermit { book: _, day: _ } = permit;
-                Ok(())
-            }
-            Err(refusal) => Err((permit, refusal)),
-        }
+        let answer = self.check_archive(archive.len(), &permit);
+        hand_back(permit, answer)?.spend();
+        // a day that is ended always settles
+        let said = self.ledger.revalue(price, margin).unwrap();
+        self.write_settlement(archive, &said);
+        Ok(())
     }
 }

@@ -17,12 +17,7 @@ impl Book {
         ensures desk { self.new.desk ≡ noted (closing_gate self.old.desk self.old.ledger.state permit) self.old.desk true }
         ensures ledger { self.new.ledger.state ≡ self.old.ledger.state }
     {
-        if let Some(refusal) = self.check_closing(&permit) {
-            return Err((permit, refusal));
-        }
-        let ClosingPermit { book: _, day: _ } = permit;
-        self.desk.laid = true;
-        Ok(())
+        self.lay_down(permit)
     }
 
     // Hands out the closing permit that is laid down.
@@ -31,13 +26,6 @@ impl Book {
         ensures desk { self.new.desk ≡ noted (take_up_closing_refusal self.old.desk self.old.ledger.state) self.old.desk false }
         ensures ledger { self.new.ledger.state ≡ self.old.ledger.state }
     {
-        if !self.phase().is_closing() || !self.desk.laid {
-            return Err(Refusal::WrongPhase);
-        }
-        self.desk.laid = false;
-        Ok(ClosingPermit {
-            book: self.desk.number,
-            day: self.day(),
-        })
+        self.take_up()
     }
 }

@@ -14,12 +14,7 @@ impl Book {
         ensures desk { self.new.desk ≡ noted (day_gate self.old.desk self.old.ledger.state permit) self.old.desk true }
         ensures ledger { self.new.ledger.state ≡ self.old.ledger.state }
     {
-        if let Some(refusal) = self.check_day(&permit) {
-            return Err((permit, refusal));
-        }
-        let DayPermit { book: _, day: _ } = permit;
-        self.desk.laid = true;
-        Ok(())
+        self.lay_down(permit)
     }
 
     // Hands out the day permit that is laid down.
@@ -28,13 +23,6 @@ impl Book {
         ensures desk { self.new.desk ≡ noted (take_up_day_refusal self.old.desk self.old.ledger.state) self.old.desk false }
         ensures ledger { self.new.ledger.state ≡ self.old.ledger.state }
     {
-        if !self.phase().is_day() || !self.desk.laid {
-            return Err(Refusal::WrongPhase);
-        }
-        self.desk.laid = false;
-        Ok(DayPermit {
-            book: self.desk.number,
-            day: self.day(),
-        })
+        self.take_up()
     }
 }

@@ -1,8 +1,8 @@
 // An idle book, and its founding (docs/RULES.md, "Founding").
-ghost use Rattle.std.specs.Prelude.{◌≡◌, ◌/◌, ◌≤◌, Bool, length, None};
-ghost use Rattle.archive.specs.Written.{begin_refusal, begun};
+ghost use Rattle.std.specs.Prelude.{◌≡◌, length};
 ghost use Rattle.refusal.specs.Reasons.{answered};
-ghost use Rattle.book.specs.Founding.{idle_desk, idle_state, new_desk, bad_book, found_gate, found_refusal, found_desk, found_state, found_bytes};
+ghost use Rattle.book.specs.Gates.{why};
+ghost use Rattle.book.specs.Founding.{idle_desk, idle_state, found_gate, found_refusal, found_desk, found_state, found_bytes};
 
 use super::Book;
 use crate::desk::Desk;
@@ -14,45 +14,34 @@ use rules::units::MIN_RATE_UNITS;
 // Book numbers fit two bytes.
 const MAX_BOOK: u64 = 65_535;
 
-fn desk(founded: bool, number: u64, slots: u32) -> Desk
-    ensures { result ≡ new_desk founded number slots }
-{
-    Desk {
-        founded,
-        number,
-        slots,
-        used: 0,
-        laid: false,
-        tips: [0; 32],
-        settled: [None; 12],
-    }
-}
-
-// Begins the archive, whose length is allowed, and answers its slots.
-fn begin_archive(archive: &mut [u8], number: u64) -> u32
-    requires begins { begin_refusal (length archive.old) number ≡ None }
-    requires sizes { (number ≤ 65535) × (length archive.old / 32 ≤ 262144) }
-    ensures slots { result ≡ length archive.old / 32 }
-    ensures bytes { archive.new ≡ begun None archive.old number }
-{
-    let _ = begin(archive, number as u16);
-    (archive.len() / SLOT_BYTES) as u32
-}
-
 impl Desk {
-    fn check_founding(&self, length: usize, number: u64) -> Option<Refusal>
-        ensures { result ≡ found_gate self.now length number }
+    fn idle() -> Desk
+        ensures { result ≡ idle_desk }
+    {
+        Desk {
+            founded: false,
+            number: 0,
+            slots: 0,
+            used: 0,
+            laid: false,
+            tips: [0; 32],
+            settled: [None; 12],
+        }
+    }
+
+    fn check_founding(&self, length: usize, number: u64) -> Result<(), Refusal>
+        ensures { why result ≡ found_gate self.now length number }
     {
         if self.mismatches(length) {
-            return Some(Refusal::ArchiveLength);
+            return Err(Refusal::ArchiveLength);
         }
         if self.founded {
-            return Some(Refusal::WrongPhase);
+            return Err(Refusal::WrongPhase);
         }
-        if number == 0 || number > MAX_BOOK {
-            return Some(Refusal::OutOfRange);
+        if !(1..=MAX_BOOK).contains(&number) {
+            return Err(Refusal::OutOfRange);
         }
-        None
+        Ok(())
     }
 }
 
@@ -63,7 +52,7 @@ impl Book {
         ensures ledger { result.ledger.state ≡ idle_state }
     {
         Book {
-            desk: desk(false, 0, 0),
+            desk: Desk::idle(),
             ledger: Ledger::start(MIN_RATE_UNITS).unwrap(),
         }
     }
@@ -75,13 +64,16 @@ impl Book {
         ensures ledger { self.new.ledger.state ≡ found_state (found_refusal self.old.desk (length archive.old) number rate) self.old.ledger.state rate }
         ensures bytes { archive.new ≡ found_bytes (found_refusal self.old.desk (length archive.old) number rate) archive.old number }
     {
-        if let Some(refusal) = self.desk.check_founding(archive.len(), number) {
-            return Err(refusal);
-        }
+        self.desk.check_founding(archive.len(), number)?;
         let ledger = Ledger::start(rate)?;
-        let slots = begin_archive(archive, number);
-        self.desk = desk(true, number, slots);
-        self.ledger = ledger;
+        begin(archive, number as u16).unwrap();
+        let desk = Desk {
+            founded: true,
+            number,
+            slots: (archive.len() / SLOT_BYTES) as u32,
+            ..Desk::idle()
+        };
+        *self = Book { desk, ledger };
         Ok(())
     }
 }

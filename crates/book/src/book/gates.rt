@@ -1,86 +1,55 @@
-// What a call asks before its own rules (docs/RULES.md, "How a call is judged").
+// What a call asks before its own rules, and how its answer hands a permit back (docs/RULES.md, "How a call is judged").
 ghost use Rattle.std.specs.Prelude.{◌≡◌, Option};
 ghost use Rattle.refusal.specs.declared.Refusal.{Refusal};
 ghost use Rattle.refusal.specs.Reasons.{answered};
-ghost use Rattle.book.specs.Desk.{has_room};
-ghost use Rattle.book.specs.Gates.{resting_gate, day_gate, closing_gate, entry_gate, settle_gate};
+ghost use Rattle.book.specs.Gates.{why, resting_gate, permit_gate, archive_gate, handed_back};
 
 use super::Book;
-use crate::permit::{ClosingPermit, DayPermit};
+use crate::desk::Phase;
+use crate::permit::Permit;
 use refusal::Refusal;
 
-// The refusal in an answer that has nothing else to say, if there is one.
-pub(crate) fn refusal_in(answer: Result<(), Refusal>) -> Option<Refusal>
-    ensures { (o : Option Refusal) → answer ≡ answered o → result ≡ o }
+// The permit whatever the answer is, with the refusal if it is one. A permit is never let go, so no `map_err` can take it.
+// Each call runs its own step first: with the step as a closure here, its answer and the archive's bytes stayed open.
+pub(crate) fn hand_back<P>(permit: P, answer: Result<(), Refusal>) -> Result<P, (P, Refusal)>
+    ensures back { result ≡ handed_back permit (why answer) }
+    ensures told { (o : Option Refusal) → answer ≡ answered o → result ≡ handed_back permit o }
 {
     match answer {
-        Ok(()) => None,
-        Err(refusal) => Some(refusal),
+        Ok(()) => Ok(permit),
+        Err(refusal) => Err((permit, refusal)),
     }
 }
 
 impl Book {
-    // Whether the slots of a settling stay free after so many entries.
-    pub(crate) fn has_room(&self, entries: u64) -> bool
-        ensures { result ≡ has_room self.now.desk entries }
+    pub(crate) fn check_resting(&self) -> Result<(), Refusal>
+        ensures { why result ≡ resting_gate self.now.desk self.now.ledger.state }
     {
-        self.desk.has_room(entries)
+        if self.phase() != Phase::Resting {
+            return Err(Refusal::WrongPhase);
+        }
+        Ok(())
     }
 
-    pub(crate) fn check_resting(&self) -> Option<Refusal>
-        ensures { result ≡ resting_gate self.now.desk self.now.ledger.state }
+    pub(crate) fn check_permit<P: Permit>(&self, permit: &P) -> Result<(), Refusal>
+        ensures { why result ≡ permit_gate P.PHASE self.now.desk self.now.ledger.state (P.book permit.now) (P.day permit.now) }
     {
-        if !self.phase().is_resting() {
-            return Some(Refusal::WrongPhase);
+        if self.phase() != P::PHASE || self.desk.laid {
+            return Err(Refusal::WrongPhase);
         }
-        None
+        if permit.book() != self.desk.number || permit.day() != self.day() {
+            return Err(Refusal::ForeignPermit);
+        }
+        Ok(())
     }
 
-    pub(crate) fn check_day(&self, permit: &DayPermit) -> Option<Refusal>
-        ensures { result ≡ day_gate self.now.desk self.now.ledger.state permit.now }
-    {
-        if !self.phase().is_day() || self.desk.laid {
-            return Some(Refusal::WrongPhase);
-        }
-        if self
-            .desk
-            .rejects(self.ledger.day(), permit.book, permit.day)
-        {
-            return Some(Refusal::ForeignPermit);
-        }
-        None
-    }
-
-    pub(crate) fn check_closing(&self, permit: &ClosingPermit) -> Option<Refusal>
-        ensures { result ≡ closing_gate self.now.desk self.now.ledger.state permit.now }
-    {
-        if !self.phase().is_closing() || self.desk.laid {
-            return Some(Refusal::WrongPhase);
-        }
-        if self
-            .desk
-            .rejects(self.ledger.day(), permit.book, permit.day)
-        {
-            return Some(Refusal::ForeignPermit);
-        }
-        None
-    }
-
-    pub(crate) fn check_entry(&self, length: usize, permit: &DayPermit) -> Option<Refusal>
-        ensures { result ≡ entry_gate self.now.desk self.now.ledger.state length permit.now }
+    // What a call asks that is brought the archive too: first the archive's length, then the permit.
+    pub(crate) fn check_archive<P: Permit>(&self, length: usize, permit: &P) -> Result<(), Refusal>
+        ensures { why result ≡ archive_gate P.PHASE self.now.desk self.now.ledger.state length (P.book permit.now) (P.day permit.now) }
     {
         if self.desk.mismatches(length) {
-            return Some(Refusal::ArchiveLength);
+            return Err(Refusal::ArchiveLength);
         }
-        self.check_day(permit)
-    }
-
-    pub(crate) fn check_settle(&self, length: usize, permit: &ClosingPermit) -> Option<Refusal>
-        ensures { result ≡ settle_gate self.now.desk self.now.ledger.state length permit.now }
-    {
-        if self.desk.mismatches(length) {
-            return Some(Refusal::ArchiveLength);
-        }
-        self.check_closing(permit)
+        self.check_permit(permit)
     }
 }

@@ -8,7 +8,6 @@ use super::Book;
 use crate::desk::Phase;
 use ledger::state::{Funds, Settled};
 use refusal::Refusal;
-use rules::units::PLACES;
 
 impl Book {
     pub fn phase(&self) -> Phase
@@ -59,9 +58,11 @@ impl Book {
     pub fn settled(&self, place: u64) -> Result<Option<Settled>, Refusal>
         ensures { result ≡ settled_answer self.now.desk place }
     {
-        if place < 1 || place > PLACES as u64 {
-            return Err(Refusal::OutOfRange);
-        }
-        Ok(self.desk.settled[(place - 1) as usize])
+        let at = place.checked_sub(1).ok_or(Refusal::OutOfRange)?;
+        self.desk
+            .settled
+            .get(at as usize)
+            .copied()
+            .ok_or(Refusal::OutOfRange)
     }
 }

@@ -2,7 +2,7 @@
 ghost use Rattle.std.specs.Prelude.{◌≡◌};
 ghost use Rattle.refusal.specs.Reasons.{answered};
 ghost use Rattle.ledger.specs.Days.{open_state};
-ghost use Rattle.ledger.specs.Listing.{list_refusal, list_state, reweigh_refusal, reweigh_state};
+ghost use Rattle.ledger.specs.Listing.{list_state, reweigh_state};
 ghost use Rattle.book.specs.Resting.{listing_refusal, ratio_refusal, day_refusal, day_answer};
 
 use super::Book;
@@ -12,42 +12,24 @@ use refusal::Refusal;
 
 impl Book {
     // A new contract at an empty place.
+    #[tactic(auto, using(crate::proofs::Staged::list_stage))]
     pub fn list(&mut self, listing: Listing) -> Result<(), Refusal>
         ensures answer { result ≡ answered (listing_refusal self.old.desk self.old.ledger.state listing) }
         ensures desk { self.new.desk ≡ self.old.desk }
         ensures ledger { self.new.ledger.state ≡ list_state (listing_refusal self.old.desk self.old.ledger.state listing) self.old.ledger.state listing }
     {
-        if let Some(refusal) = self.check_resting() {
-            return Err(refusal);
-        }
-        self.enlist(listing)
-    }
-
-    fn enlist(&mut self, listing: Listing) -> Result<(), Refusal>
-        ensures answer { result ≡ answered (list_refusal self.old.ledger.state listing) }
-        ensures desk { self.new.desk ≡ self.old.desk }
-        ensures ledger { self.new.ledger.state ≡ list_state (list_refusal self.old.ledger.state listing) self.old.ledger.state listing }
-    {
+        self.check_resting()?;
         self.ledger.list(listing)
     }
 
     // Another margin ratio for a contract.
+    #[tactic(auto, using(crate::proofs::Staged::reweigh_stage))]
     pub fn set_ratio(&mut self, place: u64, ratio: u64) -> Result<(), Refusal>
         ensures answer { result ≡ answered (ratio_refusal self.old.desk self.old.ledger.state place ratio) }
         ensures desk { self.new.desk ≡ self.old.desk }
         ensures ledger { self.new.ledger.state ≡ reweigh_state (ratio_refusal self.old.desk self.old.ledger.state place ratio) self.old.ledger.state place ratio }
     {
-        if let Some(refusal) = self.check_resting() {
-            return Err(refusal);
-        }
-        self.reweigh(place, ratio)
-    }
-
-    fn reweigh(&mut self, place: u64, ratio: u64) -> Result<(), Refusal>
-        ensures answer { result ≡ answered (reweigh_refusal self.old.ledger.state place ratio) }
-        ensures desk { self.new.desk ≡ self.old.desk }
-        ensures ledger { self.new.ledger.state ≡ reweigh_state (reweigh_refusal self.old.ledger.state place ratio) self.old.ledger.state place ratio }
-    {
+        self.check_resting()?;
         self.ledger.reweigh(place, ratio)
     }
 
@@ -57,14 +39,9 @@ impl Book {
         ensures desk { self.new.desk ≡ self.old.desk }
         ensures ledger { self.new.ledger.state ≡ open_state (day_refusal self.old.desk self.old.ledger.state) self.old.ledger.state }
     {
-        if let Some(refusal) = self.check_resting() {
-            return Err(refusal);
-        }
-        let room = self.has_room(0);
+        self.check_resting()?;
+        let room = self.desk.has_room(0);
         self.ledger.open(room)?;
-        Ok(DayPermit {
-            book: self.desk.number,
-            day: self.day(),
-        })
+        Ok(self.permit())
     }
 }

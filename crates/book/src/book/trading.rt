@@ -1,16 +1,16 @@
 // Quotes, trades and delivery prices of a book (docs/RULES.md, "Quote", "Trade", "Delivery price").
 ghost use Rattle.std.specs.Prelude.{◌≡◌, length};
-ghost use Rattle.ledger.specs.Quotes.{quote_refusal, quote_state, deliver_refusal, deliver_state};
+ghost use Rattle.refusal.specs.Reasons.{answered};
+ghost use Rattle.ledger.specs.Quotes.{quote_state, deliver_state};
 ghost use Rattle.ledger.specs.Trade.{bargain, exchange_answer, exchange_state};
+ghost use Rattle.book.specs.Desk.{has_room};
 ghost use Rattle.book.specs.Entries.{desk_with, bytes_with};
 ghost use Rattle.book.specs.Gates.{handed_back};
-ghost use Rattle.book.specs.Trading.{quoting_refusal, delivery_refusal, trade_bargain, trade_refusal, trade_moves, DealtIn};
+ghost use Rattle.book.specs.Trading.{quoting_refusal, delivery_refusal, trade_bargain, trade_refusal, trade_moves};
 
 use super::Book;
-use super::gates::refusal_in;
-use super::writing::taken;
+use super::gates::hand_back;
 use crate::permit::DayPermit;
-use archive::entry::Kind;
 use ledger::state::Deal;
 use refusal::Refusal;
 use rules::margin::MarginRule;
@@ -28,22 +28,24 @@ impl Book {
         ensures desk { self.new.desk ≡ self.old.desk }
         ensures ledger { self.new.ledger.state ≡ quote_state (quoting_refusal self.old.desk self.old.ledger.state permit place bid ask) self.old.ledger.state place bid ask }
     {
-        if let Some(refusal) = self.check_day(&permit) {
-            return Err((permit, refusal));
-        }
-        if let Some(refusal) = self.keep_quote(place, bid, ask) {
-            return Err((permit, refusal));
-        }
-        Ok(permit)
+        let answer = self.keep_quote(&permit, place, bid, ask);
+        hand_back(permit, answer)
     }
 
-    fn keep_quote(&mut self, place: u64, bid: u64, ask: u64) -> Option<Refusal>
-        ensures answer { result ≡ quote_refusal self.old.ledger.state place bid ask }
+    #[tactic(auto, using(crate::proofs::Staged::quote_stage))]
+    fn keep_quote(
+        &mut self,
+        permit: &DayPermit,
+        place: u64,
+        bid: u64,
+        ask: u64,
+    ) -> Result<(), Refusal>
+        ensures answer { result ≡ answered (quoting_refusal self.old.desk self.old.ledger.state permit.now place bid ask) }
         ensures desk { self.new.desk ≡ self.old.desk }
-        ensures ledger { self.new.ledger.state ≡ quote_state result self.old.ledger.state place bid ask }
+        ensures ledger { self.new.ledger.state ≡ quote_state (quoting_refusal self.old.desk self.old.ledger.state permit.now place bid ask) self.old.ledger.state place bid ask }
     {
-        let answer = self.ledger.quote(place, bid, ask);
-        refusal_in(answer)
+        self.check_permit(permit)?;
+        self.ledger.quote(place, bid, ask)
     }
 
     // The price at which a contract is settled on its last day.
@@ -57,31 +59,23 @@ impl Book {
         ensures desk { self.new.desk ≡ self.old.desk }
         ensures ledger { self.new.ledger.state ≡ deliver_state (delivery_refusal self.old.desk self.old.ledger.state permit place price) self.old.ledger.state place price }
     {
-        if let Some(refusal) = self.check_day(&permit) {
-            return Err((permit, refusal));
-        }
-        if let Some(refusal) = self.keep_delivery_price(place, price) {
-            return Err((permit, refusal));
-        }
-        Ok(permit)
+        let answer = self.keep_delivery_price(&permit, place, price);
+        hand_back(permit, answer)
     }
 
-    fn keep_delivery_price(&mut self, place: u64, price: u64) -> Option<Refusal>
-        ensures answer { result ≡ deliver_refusal self.old.ledger.state place price }
+    #[tactic(auto, using(crate::proofs::Staged::deliver_stage))]
+    fn keep_delivery_price(
+        &mut self,
+        permit: &DayPermit,
+        place: u64,
+        price: u64,
+    ) -> Result<(), Refusal>
+        ensures answer { result ≡ answered (delivery_refusal self.old.desk self.old.ledger.state permit.now place price) }
         ensures desk { self.new.desk ≡ self.old.desk }
-        ensures ledger { self.new.ledger.state ≡ deliver_state result self.old.ledger.state place price }
+        ensures ledger { self.new.ledger.state ≡ deliver_state (delivery_refusal self.old.desk self.old.ledger.state permit.now place price) self.old.ledger.state place price }
     {
-        let answer = self.ledger.deliver(place, price);
-        refusal_in(answer)
-    }
-
-    fn strike<M: MarginRule>(&mut self, rule: &M, deal: Deal, room: bool) -> Result<u64, Refusal>
-        ensures answer { result ≡ exchange_answer (bargain (M.opening rule.now) self.old.ledger.state deal room) deal }
-        ensures desk { self.new.desk ≡ self.old.desk }
-        ensures ledger { self.new.ledger.state ≡ exchange_state (bargain (M.opening rule.now) self.old.ledger.state deal room) self.old.ledger.state deal }
-        ensures dealt { DealtIn deal room result }
-    {
-        self.ledger.exchange(rule, deal, room)
+        self.check_permit(permit)?;
+        self.ledger.deliver(place, price)
     }
 
     // A trade between two accounts, under the margin rule that the caller brings.
@@ -97,16 +91,36 @@ impl Book {
         ensures ledger { self.new.ledger.state ≡ exchange_state (trade_bargain (M.opening rule.now) self.old.desk self.old.ledger.state (length archive.old) permit deal) self.old.ledger.state deal }
         ensures bytes { archive.new ≡ bytes_with self.old.desk archive.old (trade_moves (trade_bargain (M.opening rule.now) self.old.desk self.old.ledger.state (length archive.old) permit deal) self.old.ledger.state deal) }
     {
-        if let Some(refusal) = self.check_entry(archive.len(), &permit) {
-            return Err((permit, refusal));
-        }
-        let room = self.has_room(2);
-        match self.strike(rule, deal, room) {
-            Ok(fee) => {
-                self.write_fees(archive, deal, fee);
-                Ok(permit)
-            }
-            Err(refusal) => Err((permit, refusal)),
-        }
+        let answer = self.strike(&permit, archive, rule, deal);
+        hand_back(permit, answer)
+    }
+
+    fn strike<M: MarginRule>(
+        &mut self,
+        permit: &DayPermit,
+        archive: &mut [u8],
+        rule: &M,
+        deal: Deal,
+    ) -> Result<(), Refusal>
+        ensures answer { result ≡ answered (trade_refusal (M.opening rule.now) self.old.desk self.old.ledger.state (length archive.old) permit.now deal) }
+        ensures desk { self.new.desk ≡ desk_with self.old.desk (trade_moves (trade_bargain (M.opening rule.now) self.old.desk self.old.ledger.state (length archive.old) permit.now deal) self.old.ledger.state deal) }
+        ensures ledger { self.new.ledger.state ≡ exchange_state (trade_bargain (M.opening rule.now) self.old.desk self.old.ledger.state (length archive.old) permit.now deal) self.old.ledger.state deal }
+        ensures bytes { archive.new ≡ bytes_with self.old.desk archive.old (trade_moves (trade_bargain (M.opening rule.now) self.old.desk self.old.ledger.state (length archive.old) permit.now deal) self.old.ledger.state deal) }
+    {
+        self.check_archive(archive.len(), permit)?;
+        let fee = self.exchange(rule, deal)?;
+        self.write_fees(archive, deal, fee);
+        Ok(())
+    }
+
+    // The ledger's part of a trade, whose two entries must have room. Of its own, so that a bug in the room is refused here.
+    #[tactic(auto, using(crate::proofs::Striking::exchange_stage))]
+    fn exchange<M: MarginRule>(&mut self, rule: &M, deal: Deal) -> Result<u64, Refusal>
+        ensures answer { result ≡ exchange_answer (bargain (M.opening rule.now) self.old.ledger.state deal (has_room self.old.desk 2)) deal }
+        ensures desk { self.new.desk ≡ self.old.desk }
+        ensures ledger { self.new.ledger.state ≡ exchange_state (bargain (M.opening rule.now) self.old.ledger.state deal (has_room self.old.desk 2)) self.old.ledger.state deal }
+    {
+        let room = self.desk.has_room(2);
+        self.ledger.exchange(rule, deal, room)
     }
 }

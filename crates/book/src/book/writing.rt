@@ -1,13 +1,14 @@
 // Writing an entry about an account of the book (docs/ARCHIVE.md, "Writing").
-ghost use Rattle.std.specs.Prelude.{◌≡◌, ◌+◌, ◌*◌, ◌≤◌, true, length, pos, neg_ℤ};
+ghost use Rattle.std.specs.Prelude.{◌≡◌, ◌≤◌, true, length, pos, neg_ℤ};
 ghost use Rattle.ledger.specs.Places.{known_account, is_resting};
 ghost use Rattle.book.specs.Closing.{with_settled};
 ghost use Rattle.book.specs.Entries.{moved, entered_desk, entered_bytes, desk_with, bytes_with, fee_moves, settlement_moves};
+ghost use Rattle.book.specs.Held.{Takes};
 
 use super::Book;
-use crate::entries::{Movement, enter_settlement};
+use crate::entries::{Movement, index_of};
 use archive::entry::Kind;
-use ledger::state::{Account, Deal, Settlement};
+use ledger::state::{Deal, Settlement};
 
 // The change of equity when units leave an account.
 pub(crate) fn taken(units: u64) -> i64
@@ -24,14 +25,19 @@ impl Book {
         ensures { result ≡ moved self.now.ledger.state account kind change }
     {
         let accounts = self.ledger.accounts();
-        let holder = accounts[(account - 1) as usize];
-        Movement::of(&holder, account, self.ledger.day(), kind, change)
+        Movement::of(
+            &accounts[index_of(account)],
+            account,
+            self.ledger.day(),
+            kind,
+            change,
+        )
     }
 
     // Writes one entry, after which the slots of a settling are still free.
     pub(crate) fn write(&mut self, archive: &mut [u8], account: u64, kind: Kind, change: i64)
         requires known { known_account account ≡ true }
-        requires room { (self.old.desk.founded ≡ true) × ((length archive.old ≡ 32 * self.old.desk.slots) × (self.old.desk.used + 34 ≤ self.old.desk.slots)) }
+        requires room { Takes self.old.desk (length archive.old) 33 }
         ensures desk { self.new.desk ≡ entered_desk self.old.desk (moved self.old.ledger.state account kind change) }
         ensures ledger { self.new.ledger.state ≡ self.old.ledger.state }
         ensures bytes { archive.new ≡ entered_bytes self.old.desk archive.old (moved self.old.ledger.state account kind change) }
@@ -44,7 +50,7 @@ impl Book {
     pub(crate) fn write_fees(&mut self, archive: &mut [u8], deal: Deal, fee: u64)
         requires fee { fee ≤ 8000000000000000000 }
         requires known { (known_account deal.buyer ≡ true) × (known_account deal.seller ≡ true) }
-        requires room { (self.old.desk.founded ≡ true) × ((length archive.old ≡ 32 * self.old.desk.slots) × (self.old.desk.used + 35 ≤ self.old.desk.slots)) }
+        requires room { Takes self.old.desk (length archive.old) 34 }
         ensures desk { self.new.desk ≡ desk_with self.old.desk (fee_moves self.old.ledger.state deal fee) }
         ensures ledger { self.new.ledger.state ≡ self.old.ledger.state }
         ensures bytes { archive.new ≡ bytes_with self.old.desk archive.old (fee_moves self.old.ledger.state deal fee) }
@@ -54,25 +60,18 @@ impl Book {
         self.write(archive, deal.seller, Kind::TradeFee, change);
     }
 
-    fn accounts(&self) -> [Account; 32]
-        ensures { result ≡ self.now.ledger.state.accounts }
-    {
-        self.ledger.accounts()
-    }
-
     // The contracts settled, kept at the desk, and an entry for each account of a book that rests again.
     pub(crate) fn write_settlement(&mut self, archive: &mut [u8], said: &Settlement)
         requires rests { is_resting self.old.ledger.state.stage ≡ true }
-        requires room { (self.old.desk.founded ≡ true) × ((length archive.old ≡ 32 * self.old.desk.slots) × (self.old.desk.used + 33 ≤ self.old.desk.slots)) }
+        requires room { Takes self.old.desk (length archive.old) 32 }
         ensures desk { self.new.desk ≡ desk_with (with_settled self.old.desk said.now.contracts) (settlement_moves self.old.ledger.state.day self.old.ledger.state.accounts said.now.changes) }
         ensures ledger { self.new.ledger.state ≡ self.old.ledger.state }
         ensures bytes { archive.new ≡ bytes_with (with_settled self.old.desk said.now.contracts) archive.old (settlement_moves self.old.ledger.state.day self.old.ledger.state.accounts said.now.changes) }
     {
-        let accounts = self.accounts();
+        let accounts = self.ledger.accounts();
         let day = self.day();
-        let mut desk = self.desk;
-        desk.settled = said.contracts;
-        enter_settlement(&mut desk, archive, day, &accounts, &said.changes);
-        self.desk = desk;
+        self.desk.settled = said.contracts;
+        self.desk
+            .enter_settlement(archive, day, &accounts, &said.changes);
     }
 }

@@ -13,11 +13,8 @@ impl Ledger {
         ensures answer { result ≡ answered (credit_refusal self.old.state account fen room) }
         ensures state { self.new.state ≡ credit_state (credit_refusal self.old.state account fen room) self.old.state account fen }
     {
-        if let Some(refusal) = check_credit(&self.state, account, fen, room) {
-            return Err(refusal);
-        }
-        let next = credited(&self.state, account, fen);
-        self.state = next;
+        let at = check_credit(&self.state, account, fen, room)?;
+        self.state = credited(&self.state, at, fen);
         Ok(())
     }
 
@@ -26,11 +23,8 @@ impl Ledger {
         ensures answer { result ≡ answered (debit_refusal self.old.state account fen room) }
         ensures state { self.new.state ≡ debit_state (debit_refusal self.old.state account fen room) self.old.state account fen }
     {
-        if let Some(refusal) = check_debit(&self.state, account, fen, room) {
-            return Err(refusal);
-        }
-        let next = debited(&self.state, account, fen);
-        self.state = next;
+        let at = check_debit(&self.state, account, fen, room)?;
+        self.state = debited(&self.state, at, fen);
         Ok(())
     }
 }

@@ -16,11 +16,8 @@ impl Ledger {
         ensures answer { result ≡ answered (list_refusal self.old.state listing) }
         ensures state { self.new.state ≡ list_state (list_refusal self.old.state listing) self.old.state listing }
     {
-        if let Some(refusal) = check_list(&self.state, &listing) {
-            return Err(refusal);
-        }
-        let next = listed(&self.state, &listing);
-        self.state = next;
+        let at = check_list(&self.state, &listing)?;
+        self.state = listed(&self.state, at, &listing);
         Ok(())
     }
 
@@ -29,11 +26,8 @@ impl Ledger {
         ensures answer { result ≡ answered (reweigh_refusal self.old.state place ratio) }
         ensures state { self.new.state ≡ reweigh_state (reweigh_refusal self.old.state place ratio) self.old.state place ratio }
     {
-        if let Some(refusal) = check_reweigh(&self.state, place, ratio) {
-            return Err(refusal);
-        }
-        let next = reweighed(&self.state, place, ratio);
-        self.state = next;
+        let at = check_reweigh(&self.state, place, ratio)?;
+        self.state = reweighed(&self.state, at, ratio);
         Ok(())
     }
 
@@ -42,11 +36,8 @@ impl Ledger {
         ensures answer { result ≡ answered (quote_refusal self.old.state place bid ask) }
         ensures state { self.new.state ≡ quote_state (quote_refusal self.old.state place bid ask) self.old.state place bid ask }
     {
-        if let Some(refusal) = check_quote(&self.state, place, bid, ask) {
-            return Err(refusal);
-        }
-        let next = quoted(&self.state, place, bid, ask);
-        self.state = next;
+        let at = check_quote(&self.state, place, bid, ask)?;
+        self.state = quoted(&self.state, at, bid, ask);
         Ok(())
     }
 
@@ -55,11 +46,8 @@ impl Ledger {
         ensures answer { result ≡ answered (deliver_refusal self.old.state place price) }
         ensures state { self.new.state ≡ deliver_state (deliver_refusal self.old.state place price) self.old.state place price }
     {
-        if let Some(refusal) = check_delivery(&self.state, place, price) {
-            return Err(refusal);
-        }
-        let next = priced(&self.state, place, price);
-        self.state = next;
+        let at = check_delivery(&self.state, place, price)?;
+        self.state = priced(&self.state, at, price);
         Ok(())
     }
 }

@@ -1,7 +1,7 @@
 // The start of a ledger, and its days (docs/RULES.md, "Founding", "Day", "End").
 ghost use Rattle.std.specs.Prelude.{◌≡◌};
 ghost use Rattle.refusal.specs.Reasons.{answered};
-ghost use Rattle.ledger.specs.Days.{start_refusal, started, open_refusal, open_state, close_refusal, close_state};
+ghost use Rattle.ledger.specs.Days.{open_refusal, open_state, close_refusal, close_state};
 ghost use Rattle.ledger.specs.Started.{Begins};
 
 use super::Ledger;
@@ -24,11 +24,8 @@ impl Ledger {
         ensures answer { result ≡ answered (open_refusal self.old.state room) }
         ensures state { self.new.state ≡ open_state (open_refusal self.old.state room) self.old.state }
     {
-        if let Some(refusal) = check_open(&self.state, room) {
-            return Err(refusal);
-        }
-        let next = opened(&self.state);
-        self.state = next;
+        check_open(&self.state, room)?;
+        self.state = opened(&self.state);
         Ok(())
     }
 
@@ -37,11 +34,8 @@ impl Ledger {
         ensures answer { result ≡ answered (close_refusal self.old.state rate) }
         ensures state { self.new.state ≡ close_state (close_refusal self.old.state rate) self.old.state rate }
     {
-        if let Some(refusal) = check_close(&self.state, rate) {
-            return Err(refusal);
-        }
-        let next = closed(&self.state, rate);
-        self.state = next;
+        check_close(&self.state, rate)?;
+        self.state = closed(&self.state, rate);
         Ok(())
     }
 }

@@ -1,12 +1,11 @@
 // What a ledger answers without changing (docs/RULES.md, "The book", "Settling").
-ghost use Rattle.std.specs.Prelude.{◌≡◌, ℕ, ◌-◌, ◌≤◌, pos, neg_ℤ, ◌≤ℤ◌};
+ghost use Rattle.std.specs.Prelude.{◌≡◌, ◌-◌, ◌≤◌, pos, neg_ℤ, ◌≤ℤ◌};
 ghost use Rattle.ledger.specs.Places.{equity};
 ghost use Rattle.ledger.specs.Questions.{call_of, funds_of, funds_at, contract_at, limits_at, position_at};
 
 use super::Ledger;
-use crate::cash::known_account;
-use crate::listing::known_place;
 use crate::quotes::limits;
+use crate::seat::{AccountSeat, PlaceSeat};
 use crate::state::{Account, Contract, Funds, Row, Stage};
 use refusal::Refusal;
 use rules::limits::Limits;
@@ -23,7 +22,9 @@ fn call(available: i64) -> u64
 }
 
 fn funds(account: &Account) -> Funds
-    requires { (account.now.margin ≤ 8000000000000000000) × ((neg_ℤ (pos 8000000000000000000) ≤ℤ equity account.now) × (equity account.now ≤ℤ pos 8000000000000000000)) }
+    requires margin { account.now.margin ≤ 8000000000000000000 }
+    requires least { neg_ℤ (pos 8000000000000000000) ≤ℤ equity account.now }
+    requires most { equity account.now ≤ℤ pos 8000000000000000000 }
     ensures { result ≡ funds_of account.now }
 {
     Funds {
@@ -39,10 +40,8 @@ impl Ledger {
     pub fn funds(&self, account: u64) -> Result<Funds, Refusal>
         ensures { result ≡ funds_at self.now.state account }
     {
-        if !known_account(account) {
-            return Err(Refusal::OutOfRange);
-        }
-        Ok(funds(&self.state.accounts[(account - 1) as usize]))
+        let at = AccountSeat::try_from(account)?;
+        Ok(funds(&self.state.accounts[at.index()]))
     }
 
     // All accounts, account 1 first.
@@ -82,33 +81,24 @@ impl Ledger {
     pub fn contract(&self, place: u64) -> Result<Option<Contract>, Refusal>
         ensures { result ≡ contract_at self.now.state place }
     {
-        if !known_place(place) {
-            return Err(Refusal::OutOfRange);
-        }
-        Ok(self.state.places[(place - 1) as usize])
+        let at = PlaceSeat::try_from(place)?;
+        Ok(self.state.places[at.index()])
     }
 
     // The limits of the contract at a place, on the day of this ledger.
     pub fn limits(&self, place: u64) -> Result<Limits, Refusal>
         ensures { result ≡ limits_at self.now.state place }
     {
-        match self.contract(place)? {
-            Some(contract) => Ok(limits(self.state.day, &contract)),
-            None => Err(Refusal::PlaceState),
-        }
+        let contract = self.state.contract_at(place.try_into()?)?;
+        Ok(limits(self.state.day, &contract))
     }
 
     // An account's position in a place.
     pub fn position(&self, account: u64, place: u64) -> Result<Row, Refusal>
         ensures { result ≡ position_at self.now.state account place }
     {
-        if !(known_account(account) && known_place(place)) {
-            return Err(Refusal::OutOfRange);
-        }
-        Ok(
-            self.state
-                .table
-                .at((account - 1) as usize, (place - 1) as usize),
-        )
+        let account = AccountSeat::try_from(account)?;
+        let place = PlaceSeat::try_from(place)?;
+        Ok(self.state.table.at(account.index(), place.index()))
     }
 }

@@ -4,7 +4,7 @@ ghost use Rattle.ledger.specs.Settle.{revalue_answer, revalue_state};
 
 use super::Ledger;
 use crate::settling::settled;
-use crate::state::Settlement;
+use crate::state::{Settlement, Stage};
 use refusal::Refusal;
 use rules::margin::MarginRule;
 use rules::price::PriceRule;
@@ -19,7 +19,7 @@ impl Ledger {
         ensures answer { result ≡ revalue_answer (P.meaning price.now) (M.holding margin.now) self.old.state }
         ensures state { self.new.state ≡ revalue_state (P.meaning price.now) (M.holding margin.now) self.old.state }
     {
-        if !self.state.stage.is_closed() {
+        if self.state.stage != Stage::Closed {
             return Err(Refusal::WrongPhase);
         }
         let (next, said) = settled(&self.state, price, margin);

@@ -20,9 +20,8 @@ impl Ledger {
         ensures answer { result ≡ exchange_answer (bargain (M.opening rule.now) self.old.state deal room) deal }
         ensures state { self.new.state ≡ exchange_state (bargain (M.opening rule.now) self.old.state deal room) self.old.state deal }
     {
-        let bargain = weigh(&self.state, rule, &deal, room)?;
-        let next = exchanged(&self.state, &deal, &bargain);
-        self.state = next;
+        let (bargain, parties) = weigh(&self.state, rule, &deal, room)?;
+        self.state = exchanged(&self.state, &deal, &parties, &bargain);
         Ok(fee(&bargain.contract, &deal))
     }
 }

@@ -1,8 +1,8 @@
-use Rattle.std.proofs.Common.{arith}
+use Rattle.std.proofs.Common.{rules}
 use Rattle.ledger.specs.Days.{opened_account}
-use Rattle.ledger.specs.Places.{account_at, no_account}
-use Rattle.ledger.proofs.Tabulated.{tabulated_all}
+use Rattle.ledger.specs.Places.{no_account}
+use Rattle.ledger.proofs.Made.{tabulated_from_map}
 use Rattle.ledger.proofs.days.accounts.Goals as goal
 
 pub returns : goal.returns
-returns c = tabulated_all (λ a. opened_account (account_at c.args.state.now a)) c.loop-a.all 32 no_account c.loop-a.invariant.0 (λ k h. c.loop-a.invariant.1 k (omega arith))
+returns c = tabulated_from_map _ _ _ _ _ opened_account no_account no_account c.map.ensures.items (λ x y q k. search rules)

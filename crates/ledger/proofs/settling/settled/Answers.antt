@@ -5,10 +5,10 @@ use Rattle.ledger.proofs.Outcomes.{assembled, assembled_said, each}
 use Rattle.ledger.proofs.Pricing.{prices_small}
 use Rattle.ledger.proofs.settling.settled.Goals as goal
 
-pub outcomes-outcomes-requires : goal.outcomes-outcomes-requires
-outcomes-outcomes-requires g c = record {
+pub invariant_of-settling : goal.invariant_of-settling
+invariant_of-settling g c = record {
   sound = c.requires.sound;
-  priced = subst Priced (sym c.prices-prices.ensures) (prices_small (g.P.PriceRule.meaning c.args.price.now) c.args.state.now (g.met.P.PriceRule.inside c.args.price.now) c.requires.sound c.requires.closed);
+  priced = subst Priced (sym c.prices.ensures) (prices_small (g.P.PriceRule.meaning c.args.price.now) c.args.state.now (g.met.P.PriceRule.inside c.args.price.now) c.requires.sound c.requires.closed);
 }
 
 pub overflow_add-next : goal.overflow_add-next
@@ -17,12 +17,13 @@ overflow_add-next g c =
     let sound = c.requires.sound in
     omega (arith, sound.fees.0, days_small s sound, taken_small s sound, c.delivery_fees.ensures.most)
 
-pub returns : goal.returns
-returns g c =
-    let s = c.args.state.now in
-    let h = g.M.MarginRule.holding c.args.margin.now in
-    record {
-      state = assembled h s _ c.prices-prices.result c.outcomes-outcomes.result _ _ _ _ c.prices-prices.ensures c.outcomes-outcomes.ensures.value c.delivery_fees.ensures.value c.accounts.ensures c.places.ensures c.table.ensures;
-      near = λ a l. subst (Near 12) (each h s _ c.prices-prices.result c.outcomes-outcomes.result c.prices-prices.ensures c.outcomes-outcomes.ensures.value a l) (c.outcomes-outcomes.ensures.near a l);
-      said = assembled_said h s _ c.prices-prices.result c.outcomes-outcomes.result _ _ c.prices-prices.ensures c.outcomes-outcomes.ensures.value c.contracts.ensures c.changes.ensures;
-    }
+pub returns-clause-state : goal.returns-clause-state
+returns-clause-state g c =
+    assembled (g.M.MarginRule.holding c.args.margin.now) c.args.state.now _ c.prices.result c.outcomes-outcomes.result.each _ _ _ _ c.prices.ensures c.outcomes-outcomes.ensures c.delivery_fees.ensures.value c.accounts.ensures c.places.ensures c.table.ensures
+
+pub returns-clause-near : goal.returns-clause-near
+returns-clause-near g c = λ a l. let os = c.outcomes-outcomes.result in
+    subst (Near 12) (each (g.M.MarginRule.holding c.args.margin.now) c.args.state.now _ c.prices.result os.each c.prices.ensures c.outcomes-outcomes.ensures a l) (os.near a l)
+
+pub returns-clause-said : goal.returns-clause-said
+returns-clause-said g c = assembled_said (g.M.MarginRule.holding c.args.margin.now) c.args.state.now _ c.prices.result c.outcomes-outcomes.result.each _ _ c.prices.ensures c.outcomes-outcomes.ensures c.contracts.ensures c.changes.ensures

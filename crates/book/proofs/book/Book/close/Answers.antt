@@ -9,7 +9,7 @@ pub invariant_of-self : goal.invariant_of-self
 invariant_of-self c =
     let b = c.args.self.now in
     let s = b.ledger.state in
-    let is = sym c.close-answer.ensures.state in
+    let is = sym c.close.ensures.state in
     record {
       slots = b.slots;
       room = subst (λ (x : State). RoomIn b.desk x) is (close_room b.desk s c.args.rate b.room);

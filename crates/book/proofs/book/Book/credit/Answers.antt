@@ -1,16 +1,8 @@
-use Rattle.std.proofs.Common.{◌≡◌, ap, ◌∙◌}
-use Rattle.ledger.specs.declared.state.State.{State}
-use Rattle.book.proofs.Staged.{same_stage, same_rest, credit_stage}
+use Rattle.std.proofs.Common.{rules}
+use Rattle.book.proofs.Answering.{behind_gate}
 use Rattle.book.proofs.book.Book.credit.Goals as goal
 
-pub invariant_of-self : goal.invariant_of-self
-invariant_of-self c =
-    let b = c.args.self.now in
-    let s = b.ledger.state in
-    let u = c.credit-answer.new.self.state in
-    let same : u.stage ≡ s.stage = ap (λ (x : State). x.stage) c.credit-answer.ensures.state ∙ credit_stage _ s c.args.account c.args.fen in
-    record {
-      slots = b.slots;
-      room = same_stage b.desk s u same b.room;
-      rest = same_rest b.desk s u same b.rest;
-    }
+pub returns-in_err-credit : goal.returns-in_err-credit
+returns-in_err-credit c =
+    let refused = behind_gate _ _ _ _ _ _ c.check_archive.ensures c.in_ok-check_archive.was c.credit.ensures.answer c.in_err-credit.was in
+    search rules

@@ -1,16 +1,8 @@
-use Rattle.std.proofs.Common.{◌≡◌, ap, ◌∙◌}
-use Rattle.ledger.specs.declared.state.State.{State}
-use Rattle.book.proofs.Staged.{same_stage, same_rest, debit_stage}
+use Rattle.std.proofs.Common.{rules}
+use Rattle.book.proofs.Answering.{behind_gate}
 use Rattle.book.proofs.book.Book.debit.Goals as goal
 
-pub invariant_of-self : goal.invariant_of-self
-invariant_of-self c =
-    let b = c.args.self.now in
-    let s = b.ledger.state in
-    let u = c.debit-answer.new.self.state in
-    let same : u.stage ≡ s.stage = ap (λ (x : State). x.stage) c.debit-answer.ensures.state ∙ debit_stage _ s c.args.account c.args.fen in
-    record {
-      slots = b.slots;
-      room = same_stage b.desk s u same b.room;
-      rest = same_rest b.desk s u same b.rest;
-    }
+pub returns-in_err-debit : goal.returns-in_err-debit
+returns-in_err-debit c =
+    let refused = behind_gate _ _ _ _ _ _ c.check_archive.ensures c.in_ok-check_archive.was c.debit.ensures.answer c.in_err-debit.was in
+    search rules

@@ -1,30 +1,13 @@
-use Rattle.std.proofs.Common.{◌≡◌, ap, ◌∙◌, rules}
-use Rattle.ledger.specs.declared.state.State.{State}
+use Rattle.std.proofs.Common.{sym, ◌∙◌, rules}
 use Rattle.ledger.specs.Sound.{Sound}
-use Rattle.book.proofs.Staged.{same_stage, same_rest}
-use Rattle.book.proofs.Striking.{dealt_in, exchange_stage}
+use Rattle.book.proofs.Striking.{dealt}
 use Rattle.book.proofs.book.Book.strike.Goals as goal
 
-pub invariant_of-self : goal.invariant_of-self
-invariant_of-self g c =
-    let b = c.args.self.now in
-    let s = b.ledger.state in
-    let u = c.exchange.new.self.state in
-    let same : u.stage ≡ s.stage = ap (λ (x : State). x.stage) c.exchange.ensures.state ∙ exchange_stage _ s c.args.deal in
-    record {
-      slots = b.slots;
-      room = same_stage b.desk s u same b.room;
-      rest = same_rest b.desk s u same b.rest;
-    }
-
-pub returns : goal.returns
-returns g c =
+pub write_fees-requires : goal.write_fees-requires
+write_fees-requires g c =
     let a = c.args in
     let s = a.self.now.ledger.state in
     let sound : Sound s = search rules in
-    record {
-      answer = c.exchange.ensures.answer;
-      desk = search rules;
-      ledger = c.exchange.ensures.state;
-      dealt = dealt_in (g.M.MarginRule.opening a.rule.now) s a.deal a.room c.exchange.result (g.met.M.MarginRule.opens a.rule.now) sound c.exchange.ensures.answer;
-    }
+    let struck = dealt (g.M.MarginRule.opening a.rule.now) s a.deal _ _ (g.met.M.MarginRule.opens a.rule.now) sound (sym c.exchange.ensures.answer ∙ c.in_ok-fee.was) in
+    let roomy = struck.roomy in
+    record { fee = struck.fits; known = (struck.buyer, struck.seller); room = search rules }

@@ -1,4 +1,4 @@
-use Rattle.std.proofs.Common.{◌≡◌, length, sym, ◌∙◌, subst, rules}
+use Rattle.std.proofs.Common.{◌≡◌, length, rules}
 use Rattle.ledger.specs.Sound.{Sound}
 use Rattle.ledger.proofs.Banking.{credit_keeps}
 use Rattle.ledger.proofs.Types.{invariant}
@@ -10,5 +10,5 @@ invariant_of-self c =
     let s = a.self.now.state in
     let long : length s.accounts ≡ 32 = search rules in
     let sound : Sound s = search rules in
-    let kept = credit_keeps s a.account a.fen a.room long sound (sym c.check_credit.ensures ∙ c.in_default.is) in
-    invariant _ (subst Sound (sym c.credited-next.ensures) kept)
+    let kept : Sound c.credited-self.result = rw (c.credited-self.ensures, c.in_ok-at.ensures.1) (credit_keeps s a.account a.fen a.room long sound c.in_ok-at.ensures.0) in
+    invariant _ kept

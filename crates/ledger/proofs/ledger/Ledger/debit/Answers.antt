@@ -1,4 +1,4 @@
-use Rattle.std.proofs.Common.{◌≡◌, length, sym, ◌∙◌, subst, rules}
+use Rattle.std.proofs.Common.{◌≡◌, length, rules}
 use Rattle.ledger.specs.Sound.{Sound}
 use Rattle.ledger.proofs.Banking.{debit_keeps}
 use Rattle.ledger.proofs.Types.{invariant}
@@ -10,5 +10,5 @@ invariant_of-self c =
     let s = a.self.now.state in
     let long : length s.accounts ≡ 32 = search rules in
     let sound : Sound s = search rules in
-    let kept = debit_keeps s a.account a.fen a.room long sound (sym c.check_debit.ensures ∙ c.in_default.is) in
-    invariant _ (subst Sound (sym c.debited-next.ensures) kept)
+    let kept : Sound c.debited-self.result = rw (c.debited-self.ensures, c.in_ok-at.ensures.1) (debit_keeps s a.account a.fen a.room long sound c.in_ok-at.ensures.0) in
+    invariant _ kept

@@ -1,4 +1,4 @@
-use Rattle.std.proofs.Common.{◌≡◌, length, sym, ◌∙◌, subst, rules}
+use Rattle.std.proofs.Common.{◌≡◌, length, rules}
 use Rattle.ledger.specs.Sound.{Sound}
 use Rattle.ledger.proofs.Listings.{deliver_keeps}
 use Rattle.ledger.proofs.Types.{invariant}
@@ -10,5 +10,5 @@ invariant_of-self c =
     let s = a.self.now.state in
     let long : length s.places ≡ 12 = search rules in
     let sound : Sound s = search rules in
-    let kept = deliver_keeps s a.place a.price long sound (sym c.check_delivery.ensures ∙ c.in_default.is) in
-    invariant _ (subst Sound (sym c.priced-next.ensures) kept)
+    let kept : Sound c.priced-self.result = rw (c.priced-self.ensures, c.in_ok-at.ensures.1) (deliver_keeps s a.place a.price long sound c.in_ok-at.ensures.0) in
+    invariant _ kept

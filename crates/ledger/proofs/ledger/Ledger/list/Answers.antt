@@ -1,4 +1,4 @@
-use Rattle.std.proofs.Common.{◌≡◌, length, sym, ◌∙◌, subst, rules}
+use Rattle.std.proofs.Common.{◌≡◌, length, sym, subst, rules}
 use Rattle.ledger.specs.Sound.{Sound}
 use Rattle.ledger.proofs.Listings.{list_keeps}
 use Rattle.ledger.proofs.Types.{invariant}
@@ -10,5 +10,5 @@ invariant_of-self c =
     let s = a.self.now.state in
     let long : length s.places ≡ 12 = search rules in
     let sound : Sound s = search rules in
-    let kept = list_keeps s a.listing long sound (sym c.check_list.ensures ∙ c.in_default.is) in
-    invariant _ (subst Sound (sym c.listed-next.ensures) kept)
+    let kept : Sound c.listed-self.result = subst Sound (sym c.listed-self.ensures) (list_keeps s a.listing long sound c.in_ok-at.ensures.0) in
+    invariant _ kept

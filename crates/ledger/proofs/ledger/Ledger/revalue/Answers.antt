@@ -10,6 +10,6 @@ invariant_of-self g c =
     let a = c.args in
     let s = a.self.now.state in
     let sound : Sound s = search rules in
-    let shut : is_closed s.stage ≡ true = sym c.if-not-is_closed.ensures in
+    let shut : is_closed s.stage ≡ true = search rules in
     let kept = settle_keeps (g.P.PriceRule.meaning a.price.now) (g.M.MarginRule.holding a.margin.now) s (g.met.P.PriceRule.inside a.price.now) c.settled.ensures.near sound shut in
     invariant _ (subst Sound (sym c.settled.ensures.state) kept)

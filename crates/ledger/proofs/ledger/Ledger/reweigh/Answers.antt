@@ -1,4 +1,4 @@
-use Rattle.std.proofs.Common.{◌≡◌, length, sym, ◌∙◌, subst, rules}
+use Rattle.std.proofs.Common.{◌≡◌, length, rules}
 use Rattle.ledger.specs.Sound.{Sound}
 use Rattle.ledger.proofs.Listings.{reweigh_keeps}
 use Rattle.ledger.proofs.Types.{invariant}
@@ -10,5 +10,5 @@ invariant_of-self c =
     let s = a.self.now.state in
     let long : length s.places ≡ 12 = search rules in
     let sound : Sound s = search rules in
-    let kept = reweigh_keeps s a.place a.ratio long sound (sym c.check_reweigh.ensures ∙ c.in_default.is) in
-    invariant _ (subst Sound (sym c.reweighed-next.ensures) kept)
+    let kept : Sound c.reweighed-self.result = rw (c.reweighed-self.ensures, c.in_ok-at.ensures.1) (reweigh_keeps s a.place a.ratio long sound c.in_ok-at.ensures.0) in
+    invariant _ kept

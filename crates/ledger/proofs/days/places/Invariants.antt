@@ -1,8 +1,0 @@
-use Rattle.std.proofs.Common.{◌≡◌, ℕ, ◌<◌, length, get_or, None}
-use Rattle.ledger.specs.Days.{opened_place}
-use Rattle.ledger.specs.Places.{place_at}
-use Rattle.ledger.proofs.days.places.Given as goal
-
--- What is filled so far.
-abbrev pub invariant-loop-p : goal.invariant-loop-p
-invariant-loop-p l = (length l.all ≡ 12) × ((j : ℕ) → j < l.p → get_or l.all j None ≡ opened_place (place_at l.state j))
