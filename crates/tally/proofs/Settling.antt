@@ -66,9 +66,6 @@ abbrev price_told : (Figures → ℕ) → ℕ → ℕ → ℕ → ℕ → Option
 price_told meaning day pr q v bi ki de o =
     cond (on_last_day day o) (unwrap_or de 0) (meaning (record { previous = pr; limits = limits_told day o pr; quantity = q; value = v; bid = bi; ask = ki }))
 
-same_price : (meaning : Figures → ℕ) (day pr ra q v : ℕ) (bi ki de : Option ℕ) (x : Listed) → price_at meaning day (told_from pr ra q v bi ki de (Some x)) ≡ price_told meaning day pr q v bi ki de (Some x)
-same_price meaning day pr ra q v bi ki de x = refl
-
 -- The number, the row and the place after a settling.
 number_after : (day : ℕ) (o : Option Listed) → number_of (unless_last day o) ≡ cond (on_last_day day o) 0 (number_of o)
 number_after day None = refl
