@@ -5,6 +5,9 @@ ghost use Rattle.archive.specs.Layout.{encoded, header, slot_at, slot_of, entry_
 use crate::entry::{Entry, UnknownKind};
 use crate::write::SLOT_BYTES;
 
+// Where in a slot its account's byte stands.
+pub(crate) const ACCOUNT_AT: usize = 7;
+
 // The numbers of a slot as they stand there. Beside `Entry`, since here the byte of the kind may be any.
 #[derive(Clone, Copy, Debug, PartialEq, Eq)]
 pub(crate) struct Slot {
@@ -60,7 +63,7 @@ impl Slot {
         out[0..4].copy_from_slice(&self.next.to_be_bytes());
         out[4..6].copy_from_slice(&self.day.to_be_bytes());
         out[6] = self.kind;
-        out[7] = self.account;
+        out[ACCOUNT_AT] = self.account;
         out[8..16].copy_from_slice(&self.change.to_be_bytes());
         out[16..24].copy_from_slice(&self.available.to_be_bytes());
         out[24..32].copy_from_slice(&self.margin.to_be_bytes());
@@ -78,7 +81,7 @@ impl Slot {
             next: u32::from_be_bytes(bytes_at(archive, at)),
             day: u16::from_be_bytes(bytes_at(archive, at + 4)),
             kind: archive[at + 6],
-            account: archive[at + 7],
+            account: archive[at + ACCOUNT_AT],
             change: i64::from_be_bytes(bytes_at(archive, at + 8)),
             available: i64::from_be_bytes(bytes_at(archive, at + 16)),
             margin: u64::from_be_bytes(bytes_at(archive, at + 24)),

@@ -5,8 +5,9 @@ ghost use Rattle.archive.specs.Layout.{slot_at};
 ghost use Rattle.archive.specs.Chain.{last, entry_on};
 
 use crate::entry::{Entry, Link};
-use crate::layout::Slot;
+use crate::layout::{ACCOUNT_AT, Slot};
 use crate::read::{admit, used_slots};
+use crate::write::SLOT_BYTES;
 use refusal::Refusal;
 
 // The links of the account's chain from a slot on.
@@ -44,21 +45,24 @@ impl<'a> Links<'a> {
     fn newest(&self) -> u32
         ensures { result ≡ last (slot_at self.now.archive.now) self.now.account self.now.slot }
     {
-        // no `.rev().find(..)`: the library has no lemma on a reversed range, and that proof did not close
-        for slot in (1..=self.slot).rev() {
+        // counted up and in one width: a reversed range, or a slot that is widened for each byte, took half as long again
+        let top = self.slot as usize;
+        for passed in 0..top {
+            let slot = top - passed;
             if self.names(slot) {
-                return slot;
+                return slot as u32;
             }
         }
         0
     }
 
     // Whether a slot up to here names the account.
-    fn names(&self, slot: u32) -> bool
+    #[tactic(auto, unfolding(crate::specs::Layout::slot_at))]
+    fn names(&self, slot: usize) -> bool
         requires { slot ≤ self.now.slot }
         ensures { result ≡ ((slot_at self.now.archive.now slot).account == self.now.account) }
     {
-        u64::from(Slot::read(self.archive, slot).account) == self.account
+        u64::from(self.archive[SLOT_BYTES * slot + ACCOUNT_AT]) == self.account
     }
 
     // The entry of the slot here, if it may stand on the account's chain.

@@ -1,5 +1,5 @@
 -- What the ledger's answer to a trade tells: a fee that fits, and two known accounts.
-use Rattle.std.proofs.Common.{◌≡◌, ℕ, ◌*◌, ◌≤◌, Bool, true, ◌&&◌, Ok, Err, Result, refl, ap₂, arith}
+use Rattle.std.proofs.Common.{◌≡◌, ℕ, ◌*◌, ◌≤◌, Bool, true, ◌&&◌, Ok, Err, Result, sym, refl, ap₂, arith}
 use Rattle.std.proofs.lemmas.Nat.{mul-le}
 use Rattle.std.proofs.lemmas.Bool.{le-leb, not-false}
 use Rattle.refusal.specs.declared.Refusal.{Refusal}
@@ -11,6 +11,7 @@ use Rattle.ledger.specs.declared.state.State.{State}
 use Rattle.ledger.specs.Places.{known_account}
 use Rattle.ledger.specs.Sound.{Sound}
 use Rattle.ledger.specs.Trade.{bargain, exchange_answer, exchange_state, fee_of, sides_reasons}
+use Rattle.book.specs.Trading.{DealtIn}
 use Rattle.ledger.proofs.Exchanging.{struck, tradable}
 
 pub record Dealt (d : Deal) (room : Bool) (fee : ℕ) : Type 0 where
@@ -37,3 +38,7 @@ dealt opening s d room fee fair sound h = go (bargain opening s d room) refl h
 pub exchange_stage : (r : Result Bargain Refusal) (s : State) (d : Deal) → (exchange_state r s d).stage ≡ s.stage
 exchange_stage (Ok b) s d = refl
 exchange_stage (Err w) s d = refl
+
+pub dealt_in : (opening : ℕ → ℕ → ℕ → ℕ) (s : State) (d : Deal) (room : Bool) (r : Result ℕ Refusal) → ((v q r : ℕ) → Fair v q r (opening v q r)) → Sound s → r ≡ exchange_answer (bargain opening s d room) d → DealtIn d room r
+dealt_in opening s d room (Ok fee) fair sound is = let k = dealt opening s d room fee fair sound (sym is) in (k.fits, k.buyer, k.seller, k.roomy)
+dealt_in opening s d room (Err w) fair sound is = tt

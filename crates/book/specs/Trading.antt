@@ -1,9 +1,10 @@
 -- Quotes, trades and delivery prices of a book (docs/RULES.md, "Quote", "Trade", "Delivery price").
-use Rattle.std.specs.Prelude.{ℕ, List, [], Some, None, Ok, Err, Option, Result}
+use Rattle.std.specs.Prelude.{◌≡◌, ℕ, ◌≤◌, Bool, true, List, [], Some, None, Ok, Err, Option, Result}
 use Rattle.refusal.specs.declared.Refusal.{Refusal}
 use Rattle.ledger.specs.declared.state.Bargain.{Bargain}
 use Rattle.ledger.specs.declared.state.Deal.{Deal}
 use Rattle.ledger.specs.declared.state.State.{State}
+use Rattle.ledger.specs.Places.{known_account}
 use Rattle.ledger.specs.Quotes.{quote_refusal, deliver_refusal}
 use Rattle.ledger.specs.Trade.{bargain, exchange_answer, exchange_state}
 use Rattle.book.specs.declared.desk.Desk.{Desk}
@@ -37,3 +38,8 @@ paid_moves (Err w) s deal = []
 
 abbrev pub trade_moves : Result Bargain Refusal → State → Deal → List Movement
 trade_moves r s deal = paid_moves (exchange_answer r deal) (exchange_state r s deal) deal
+
+-- A trade that was struck: the fee fits an entry, both accounts are known, and there was room.
+abbrev pub DealtIn : Deal → Bool → Result ℕ Refusal → Type 0
+DealtIn deal room (Ok fee) = (fee ≤ 8000000000000000000) × (known_account deal.buyer ≡ true) × (known_account deal.seller ≡ true) × (room ≡ true)
+DealtIn deal room (Err w) = Unit {0}

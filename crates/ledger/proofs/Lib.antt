@@ -2,7 +2,6 @@ pub mod Answered
 pub mod Products
 pub mod Tabulated
 pub mod Made
-pub mod Mapped
 pub mod Types
 pub mod Accounts
 pub mod Banking

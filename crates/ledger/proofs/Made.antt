@@ -1,7 +1,7 @@
--- Arrays made of their indices, or of the elements of another.
-use Rattle.std.proofs.Common.{◌≡◌, ℕ, zero, suc, ◌+◌, ◌<◌, ◌≤◌, List, get_or, sym, ap, ◌∙◌, subst, refl, inl, inr, arith}
+-- Arrays made of their indices.
+use Rattle.std.proofs.Common.{◌≡◌, ℕ, zero, suc, ◌+◌, ◌<◌, ◌≤◌, List, get_or, sym, ◌∙◌, subst, refl, inl, inr, arith}
 use Rattle.std.proofs.lemmas.Bool.{cases_eq}
-use Rattle.std.specs.Array.{IsFromFnResult, IsFromFnResultFrom, IsMapOf, MapsFrom}
+use Rattle.std.specs.Array.{IsFromFnResult, IsFromFnResultFrom}
 use Rattle.std.specs.Fn.{Called}
 use denote.Param.Members.{Mut}
 use Rattle.ledger.specs.Sums.{tabulated}
@@ -29,22 +29,3 @@ tabulated_from_fn g f ys n h d m call =
 pub each_from_fn : {F X : Type 0} (g : Mut F (ℕ × Unit {0}) X) (f : F) (ys : List X) (n : ℕ) (P : X → Type 0) (d : X)
     → IsFromFnResult g f ys n → ((i : ℕ) (p : F) (y : X) (q : F) → i < n → Called g p (i, tt) y q → P y) → (i : ℕ) → i < n → P (get_or ys i d)
 each_from_fn g f ys n P d m call i l = let k = m.at i d l in call i k.0 (get_or ys i d) k.1 l k.2
-
-module _ {F A X : Type 0} (g : Mut F (A × Unit {0}) X) (f : F) (xs : List A) (ys : List X) (h : A → X) (a : A) (d : X) where
-  mapped_from : (n i : ℕ) (p : F) → ((x : A) (y : X) (q : F) → Called g f (x, tt) y q → (q ≡ f) × (y ≡ h x)) → p ≡ f → MapsFrom g p xs ys i n → (k : ℕ) → i ≤ k → k < i + n → get_or ys k d ≡ h (get_or xs k a)
-  mapped_from zero i p call same m k low high = absurd (omega arith)
-  mapped_from (suc n) i p call same m k low high =
-      let q = m.0 in let x = m.1 in let y = m.2 in
-      let from = m.3 in
-      let at = m.4 in
-      let rest = m.6 in
-      let done = call x y q (subst (λ (z : F). Called g z (x, tt) y q) same m.5) in
-      elim (cases_eq k i) [
-        | inl here ↦ subst (λ (j : ℕ). get_or ys j d ≡ h (get_or xs j a)) (sym here) (at.1 d ∙ done.1 ∙ ap h (sym (from.1 a)))
-        | inr ne ↦ mapped_from n (i + 1) q call done.0 rest k (omega arith) (omega arith)
-      ]
-
-pub tabulated_from_map : {F A X : Type 0} (g : Mut F (A × Unit {0}) X) (f : F) (xs : List A) (ys : List X) (n : ℕ) (h : A → X) (a : A) (d : X)
-    → IsMapOf g f xs ys n → ((x : A) (y : X) (q : F) → Called g f (x, tt) y q → (q ≡ f) × (y ≡ h x)) → ys ≡ tabulated (λ k. h (get_or xs k a)) n
-tabulated_from_map g f xs ys n h a d m call =
-    tabulated_all (λ k. h (get_or xs k a)) ys n d m.long (λ k l. mapped_from g f xs ys h a d n 0 f call refl m.each k (omega arith) (omega arith))

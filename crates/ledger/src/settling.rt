@@ -81,7 +81,7 @@ fn price_at<P: PriceRule>(day: u64, rule: &P, held: &Option<Contract>) -> u64
 fn prices<P: PriceRule>(state: &State, rule: &P) -> [u64; 12]
     ensures { result ≡ prices_of (P.meaning rule.now) state.now }
 {
-    state.places.map(|held| price_at(state.day, rule, &held))
+    array::from_fn(|place| price_at(state.day, rule, &state.places[place]))
 }
 
 fn delivery_fee(contract: &Contract, row: &Row) -> u64

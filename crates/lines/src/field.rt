@@ -73,7 +73,7 @@ impl<'a> Cursor<'a> {
         }
     }
 
-    // The column of the piece that follows `pieces` more.
+    // The column of the piece that follows `pieces` more. The loop only repeats: it counts no index.
     pub(crate) fn column_after(mut self, pieces: usize) -> usize
         ensures { result ≡ (ahead pieces (spot self.entry)).column }
     {

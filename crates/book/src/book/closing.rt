@@ -1,10 +1,9 @@
 // The end of a day, and its settling (docs/RULES.md, "End", "Settle").
 ghost use Rattle.std.specs.Prelude.{◌≡◌, length};
-ghost use Rattle.refusal.specs.Reasons.{answered};
 ghost use Rattle.ledger.specs.Days.{close_state};
 ghost use Rattle.book.specs.Closing.{end_refusal, closing_for, settle_refusal, settle_state, settle_moves, settle_desk};
 ghost use Rattle.book.specs.Entries.{desk_with, bytes_with};
-ghost use Rattle.book.specs.Gates.{spent_for};
+ghost use Rattle.book.specs.Gates.{spent_for, why};
 
 use super::Book;
 use super::gates::hand_back;
@@ -29,8 +28,9 @@ impl Book {
         Ok(ClosingPermit { book, day })
     }
 
+    #[tactic(auto, using(crate::proofs::Answering::why_answered))]
     fn close(&mut self, permit: &DayPermit, rate: u64) -> Result<(), Refusal>
-        ensures answer { result ≡ answered (end_refusal self.old.desk self.old.ledger.state permit.now rate) }
+        ensures answer { why result ≡ end_refusal self.old.desk self.old.ledger.state permit.now rate }
         ensures desk { self.new.desk ≡ self.old.desk }
         ensures ledger { self.new.ledger.state ≡ close_state (end_refusal self.old.desk self.old.ledger.state permit.now rate) self.old.ledger.state rate }
     {

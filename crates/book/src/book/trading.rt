@@ -3,10 +3,9 @@ ghost use Rattle.std.specs.Prelude.{◌≡◌, length};
 ghost use Rattle.refusal.specs.Reasons.{answered};
 ghost use Rattle.ledger.specs.Quotes.{quote_state, deliver_state};
 ghost use Rattle.ledger.specs.Trade.{bargain, exchange_answer, exchange_state};
-ghost use Rattle.book.specs.Desk.{has_room};
 ghost use Rattle.book.specs.Entries.{desk_with, bytes_with};
 ghost use Rattle.book.specs.Gates.{handed_back};
-ghost use Rattle.book.specs.Trading.{quoting_refusal, delivery_refusal, trade_bargain, trade_refusal, trade_moves};
+ghost use Rattle.book.specs.Trading.{quoting_refusal, delivery_refusal, trade_bargain, trade_refusal, trade_moves, DealtIn};
 
 use super::Book;
 use super::gates::hand_back;
@@ -108,19 +107,21 @@ impl Book {
         ensures bytes { archive.new ≡ bytes_with self.old.desk archive.old (trade_moves (trade_bargain (M.opening rule.now) self.old.desk self.old.ledger.state (length archive.old) permit.now deal) self.old.ledger.state deal) }
     {
         self.check_archive(archive.len(), permit)?;
-        let fee = self.exchange(rule, deal)?;
+        let room = self.desk.has_room(2);
+        let fee = self.exchange(rule, deal, room)?;
         self.write_fees(archive, deal, fee);
         Ok(())
     }
 
-    // The ledger's part of a trade, whose two entries must have room. Of its own, so that a bug in the room is refused here.
+    // The ledger's part of a trade, and what its fees need to be entered. Of its own, so that a bug in the steps of a trade is
+    // refused there.
     #[tactic(auto, using(crate::proofs::Striking::exchange_stage))]
-    fn exchange<M: MarginRule>(&mut self, rule: &M, deal: Deal) -> Result<u64, Refusal>
-        ensures answer { result ≡ exchange_answer (bargain (M.opening rule.now) self.old.ledger.state deal (has_room self.old.desk 2)) deal }
+    fn exchange<M: MarginRule>(&mut self, rule: &M, deal: Deal, room: bool) -> Result<u64, Refusal>
+        ensures answer { result ≡ exchange_answer (bargain (M.opening rule.now) self.old.ledger.state deal room) deal }
         ensures desk { self.new.desk ≡ self.old.desk }
-        ensures ledger { self.new.ledger.state ≡ exchange_state (bargain (M.opening rule.now) self.old.ledger.state deal (has_room self.old.desk 2)) self.old.ledger.state deal }
+        ensures ledger { self.new.ledger.state ≡ exchange_state (bargain (M.opening rule.now) self.old.ledger.state deal room) self.old.ledger.state deal }
+        ensures dealt { DealtIn deal room result }
     {
-        let room = self.desk.has_room(2);
         self.ledger.exchange(rule, deal, room)
     }
 }
